@@ -169,7 +169,8 @@ impl Row {
         }
     }
 
-    /// Moves all watchers by an event, which names the address or doesn't. Where it doesn't, only its own thread's move.
+    /// Moves all watchers by an event, which names the address or doesn't. Where it doesn't, only its own
+    /// thread's move.
     pub fn move_all(&mut self, e: &Event, on_this: bool, watchers: &[Watcher])
         ensures { self.new ≡ with_all e.now on_this watchers.now self.old }
     {

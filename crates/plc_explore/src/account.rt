@@ -19,7 +19,9 @@ use std::alloc::Global;
 /// A line of the schedule, and the line of the file whose step it takes, if it takes one.
 #[derive(Clone, Copy)]
 pub struct Lines {
+    /// The line of the schedule.
     pub schedule: u32,
+    /// The line of the file, where a step of it stands there.
     pub file: Option<u32>,
 }
 

@@ -15,7 +15,9 @@ use std::alloc::Global;
 /// Where a run stands, and who says what is freed in it.
 #[derive(Drop)]
 pub struct Running<'a> {
+    /// Memory, threads and what is retired, as far as the run has come.
     pub config: Config,
+    /// What the reclaimer may free.
     pub frees: &'a mut Frees,
 }
 

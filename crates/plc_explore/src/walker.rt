@@ -284,7 +284,7 @@ impl<'a> Walker<'a> {
     }
 }
 
-/// Whether a primitive writes a pointer field, or a shared pointer but with a new node.
+/// Whether a primitive writes a pointer field, or a shared pointer unless with a new node.
 fn writes_shared(prim: &Prim) -> bool {
     match prim {
         Prim::New { .. } => false,

@@ -17,10 +17,15 @@ const MOST_MOVES: u64 = 40_000_000;
 /// A run that was found, if one was, what is known of its race, and how much was tried.
 #[derive(Drop)]
 pub(crate) struct Quarry {
+    /// The moves of the run that races, if one was found.
     pub trail: Option<Trail>,
+    /// What can be said of its race.
     pub account: Option<Account>,
+    /// From what the runs were drawn.
     pub seed: u32,
+    /// How many runs were drawn.
     pub runs: u64,
+    /// How many moves they have together.
     pub moves: u64,
 }
 

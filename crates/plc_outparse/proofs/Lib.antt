@@ -1,7 +1,5 @@
-pub mod Repeated
-pub mod FormsOfTrees
-pub mod Lengths
-pub mod Law
-pub mod Exact
+pub mod AtFront
 pub mod Fits
+pub mod InTurn
+pub mod Lengths
 pub mod Marked

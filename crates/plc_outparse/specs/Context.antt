@@ -1,4 +1,4 @@
--- What readers of an outline ask of what stands around it.
+-- What the meaning of an outline asks of what stands around it.
 use Rattle.std.specs.Prelude.{◌+◌, ◌≤◌, ℕ, length}
 use Rattle.plc_base.specs.Limits.{most}
 use Rattle.plc_base.specs.Names.{NameList}

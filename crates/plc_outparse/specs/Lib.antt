@@ -5,9 +5,6 @@ pub mod Meaning
 pub mod Outlines
 pub mod Answers
 pub mod Fit
--- what contracts say for the crates above alone
-pub mod Forms
-pub mod Reading
-pub mod Views
 -- words of private functions alone
 pub mod Context
+pub mod Views

@@ -1,7 +1,8 @@
--- Whether an outline stands at the front of tokens, what it means, and why it is refused.
-use Rattle.std.specs.Prelude.{◌≡◌, ℕ, ◌+◌, List, Result, Err}
+-- Whether an outline stands at the front of tokens, what it means, why it is refused, and what is left after it.
+use Rattle.std.specs.Prelude.{◌≡◌, ℕ, ◌+◌, List, length, Result, Err}
 use Rattle.plc_lex.specs.declared.token.TokenKind.{TokenKind}
 use Rattle.plc_lang.specs.declared.syntax.Op.{Op}
+use Rattle.plc_syntax.specs.declared.rest.Rest.{Rest}
 use Rattle.plc_syntax.specs.Syntax.{OutlineFaultAt}
 use Rattle.plc_syntax.specs.Trees.{OutlineTree, outline_then}
 use Rattle.plc_scope.specs.declared.fault.ParseFault.{ParseFault}
@@ -20,6 +21,20 @@ pub record Means (s : Scope) (ops : List Op) (at : ℕ) (ts : List TokenKind)
   pub tree : OutlineTree
   pub is_outline : IsOutline ts tree after
   pub is : outline_means s ops at tree ≡ meaning
+
+-- what is left ends where that before ended
+pub record Within (before after : Rest) : Type 0 where
+  pub end : after.at + length after.tokens.now ≡ before.at + length before.tokens.now
+
+-- at most one outline stands at the front of tokens, so they have one meaning and one rest, and where they have none
+-- no outline stands there
+pub record OutlinesAreOne : Type 0 where
+  pub meaning : (s : Scope) (ops : List Op) (at : ℕ) (ts : List TokenKind) (m n : Result (Outline × ℕ) ParseFault)
+      (r q : List TokenKind) → Means s ops at ts m r → Means s ops at ts n q → m ≡ n
+  pub rest : (ts : List TokenKind) (a b : OutlineTree) (r q : List TokenKind) → IsOutline ts a r → IsOutline ts b q
+      → r ≡ q
+  pub not_both : (ts : List TokenKind) (place : ℕ) (a : OutlineTree) (r : List TokenKind) → OutlineFaultAt ts place
+      → IsOutline ts a r → ⊥
 
 -- the fault that they are answered with: of syntax at the place where none can stand there any more, else that of
 -- the meaning; memory may run out anywhere

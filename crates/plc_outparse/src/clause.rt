@@ -1,28 +1,27 @@
 // Clauses: their quantified names, which differ from all names in reach, and their literals.
-ghost use Rattle.std.specs.Prelude.{◌≡◌, ◌+◌, ◌<◌, ◌≤◌, ◌^◌, Result, [], IfOk, length};
+ghost use Rattle.std.specs.Prelude.{◌≡◌, ◌+◌, ◌<◌, ◌≤◌, ◌^◌, Result, [], IfOk, length, map};
 ghost use Rattle.plc_base.specs.Names.{place_of};
-ghost use Rattle.plc_forms.specs.Views.{text_or_none};
+ghost use Rattle.plc_syntax.specs.Views.{text_or_none, literal_tree, bound_tree};
 ghost use Rattle.plc_logic.specs.declared.clause.Literal.{Literal};
 ghost use Rattle.plc_scope.specs.declared.fault.ParseFault.{ParseFault};
-ghost use Rattle.plc_scope.specs.Answers.{Gives, Within};
+ghost use Rattle.plc_scope.specs.Answers.{Gives};
 ghost use Rattle.plc_scope.specs.Scope.{most_locals, if_new, with_last};
-ghost use Rattle.plc_outparse.specs.Context.{HasRoomForBound};
 ghost use Rattle.plc_scope.specs.Limits.{stands_at};
-ghost use Rattle.plc_outparse.specs.Meaning.{counted, literal_step, none_bound, bound_with, second_bound};
-ghost use Rattle.plc_outparse.specs.Meaning.{bound_means};
-ghost use Rattle.plc_outparse.specs.Reading.{literals_in, all_literals_in, clause_line_in};
-ghost use Rattle.plc_outparse.specs.Sizes.{literal_size, bound_size};
-ghost use Rattle.plc_outparse.specs.Views.{literal_tree, quantified_tree, reach_of, read_with, kinds_left};
+ghost use Rattle.plc_tree.specs.FormViews.{clause_tree};
+ghost use Rattle.plc_outparse.specs.Context.{HasRoomForBound};
+ghost use Rattle.plc_outparse.specs.Meaning.{counted, literal_step, in_turn, none_bound, bound_with, second_bound};
+ghost use Rattle.plc_outparse.specs.Meaning.{bound_means, clause_means, clause_line_means};
+ghost use Rattle.plc_outparse.specs.Sizes.{literal_size, bound_size, or_literals_size, clause_line_size};
+ghost use Rattle.plc_outparse.specs.Views.{reach_of};
 
-use crate::form::{LiteralForm, Parsed, Quantified};
-use crate::literal_form::{literal_at, or_literal_at, quantified_at};
 use crate::reach::{Reach, declared_kind};
-use crate::term::literal;
+use crate::term::{literal, literal_size};
 use plc_base::{Items, MOST_BOUND, Names, What1};
-use plc_forms::{Rest, semicolon_at};
 use plc_lang::Local;
 use plc_logic::{Clause, Literal};
 use plc_scope::{ParseFault, Scope, add_name};
+use plc_syntax::{Bound as BoundForm, Literal as LiteralForm};
+use plc_tree::Clause as ClauseForm;
 use std::alloc::Global;
 
 /// A quantified name that differs from those before.
@@ -83,19 +82,30 @@ fn bind_all(
     locals: &[Local],
     bound: &mut Names,
     at: u32,
-    form: Quantified,
+    form: BoundForm,
 ) -> Result<(), ParseFault>
     requires locals { length locals.now ≤ most_locals }
     requires none { bound.old ≡ none_bound }
-    requires place { at + bound_size (quantified_tree form) < 2 ^ 32 }
-    ensures { Gives (λ _. bound.new) result (bound_means scope.now locals.now at (quantified_tree form.entry)) }
+    requires place { at + bound_size (bound_tree form) < 2 ^ 32 }
+    ensures { Gives (λ _. bound.new) result (bound_means scope.now locals.now at (bound_tree form.entry)) }
 {
     match form {
-        Quantified::None => Ok(()),
-        Quantified::All(first, second) => {
+        BoundForm::None => Ok(()),
+        BoundForm::All(first, second) => {
             bind(scope, locals, bound, at + 1, first)?;
             bind_second(scope, locals, bound, at + 3, second)
         }
+    }
+}
+
+/// How many tokens quantified names have, with "all" and the colon.
+fn bound_size(form: BoundForm) -> u32
+    ensures { result ≡ bound_size (bound_tree form.entry) }
+{
+    match form {
+        BoundForm::None => 0,
+        BoundForm::All(_, None) => 3,
+        BoundForm::All(_, Some(_)) => 5,
     }
 }
 
@@ -117,118 +127,100 @@ fn counted(
     }
 }
 
-/// A further literal, whose "or" stands at the place.
+/// A further literal, whose "or" stands at the place; and the place after it.
 #[tactic(auto, unfolding(crate::specs::Meaning::literal_step))]
 fn add_literal(
     reach: &Reach,
     literals: &mut Items<Literal>,
     at: u32,
     form: LiteralForm,
-) -> Result<(), ParseFault>
+) -> Result<u32, ParseFault>
     requires locals { length reach.now.locals.now ≤ most_locals }
-    requires place { at + 1 + literal_size (literal_tree form) < 2 ^ 32 }
-    ensures { Gives (λ _. (literals.new, at + 1 + literal_size (literal_tree form.entry))) result
+    requires place { at + (1 + literal_size (literal_tree form)) < 2 ^ 32 }
+    ensures read { Gives (λ after. (literals.new, after)) result
         (literal_step (reach_of reach.now) (literals.old, at) (literal_tree form.entry)) }
+    ensures place { IfOk result (λ after. after ≡ at + 1 + literal_size (literal_tree form.entry)) }
 {
     let further = counted(literals.len(), at + 1, literal(reach, at + 1, form))?;
     literals.push(further)?;
-    Ok(())
+    Ok(at + 1 + literal_size(form))
 }
 
-/// The literals after the first.
-fn read_further_literals<'a>(
+/// The literals after the first, from a place on; and the place after them.
+fn add_literals(
     reach: &Reach,
     literals: &mut Items<Literal>,
-    start: Rest<'a>,
-) -> Result<Rest<'a>, ParseFault>
-    requires { length reach.now.locals.now ≤ most_locals }
-    ensures read { Gives (read_with literals.new) result
-        (literals_in (reach_of reach.now) (literals.old, start.entry.at) (kinds_left start.entry)) }
-    ensures place { IfOk result (λ r. Within start.entry r) }
-{
-    let mut rest = start;
-    for _ in 0..start.tokens.len() {
-        let Some((form, after)) = or_literal_at(rest) else {
-            return Ok(rest);
-        };
-        add_literal(reach, literals, rest.at, form)?;
-        rest = after;
-    }
-    Err(ParseFault::Syntax { at: rest.at })
-}
-
-/// All literals of a clause, put where there is none yet.
-#[tactic(auto, unfolding(crate::specs::Reading::all_literals_in))]
-fn read_literals<'a>(
-    reach: &Reach,
-    literals: &mut Items<Literal>,
-    start: Rest<'a>,
-) -> Result<Rest<'a>, ParseFault>
+    start: u32,
+    others: &[LiteralForm],
+) -> Result<u32, ParseFault>
     requires locals { length reach.now.locals.now ≤ most_locals }
-    requires none { literals.old ≡ [] }
-    ensures read { Gives (read_with literals.new) result
-        (all_literals_in (reach_of reach.now) start.entry.at (kinds_left start.entry)) }
-    ensures place { IfOk result (λ r. Within start.entry r) }
+    requires place { start + or_literals_size (map literal_tree others.now) < 2 ^ 32 }
+    ensures read { Gives (λ after. (literals.new, after)) result
+        (in_turn (literal_step (reach_of reach.now)) (literals.old, start) (map literal_tree others.now)) }
+    ensures place { IfOk result (λ after. after ≡ start + or_literals_size (map literal_tree others.now)) }
 {
-    let Some((form, after)) = literal_at(start) else {
-        return Err(ParseFault::Syntax { at: start.at });
-    };
-    literals.push(literal(reach, start.at, form)?)?;
-    read_further_literals(reach, literals, after)
+    let mut at = start;
+    for form in others {
+        at = add_literal(reach, literals, at, *form)?;
+    }
+    Ok(at)
 }
 
-/// The quantified names of a clause, its literals and its semicolon, put into a clause that has none yet.
-#[tactic(auto, unfolding(crate::specs::Reading::clause_in, crate::specs::Reading::clause_line_in))]
-fn read_into<'a>(
+/// The quantified names of a clause and its literals, put into a clause that has none yet; and the place
+/// after them.
+#[tactic(auto, unfolding(crate::specs::Meaning::clause_means))]
+fn add_all(
     scope: &Scope,
     locals: &[Local],
     in_operation: bool,
     clause: &mut Clause,
-    start: Rest<'a>,
-) -> Result<Rest<'a>, ParseFault>
+    at: u32,
+    form: &ClauseForm,
+) -> Result<u32, ParseFault>
     requires locals { length locals.now ≤ most_locals }
     requires bound { clause.old.bound ≡ none_bound }
     requires literals { clause.old.literals ≡ [] }
-    ensures read { Gives (read_with clause.new) result
-        (clause_line_in scope.now locals.now in_operation start.entry.at (kinds_left start.entry)) }
-    ensures place { IfOk result (λ r. Within start.entry r) }
+    requires place { at + clause_line_size (clause_tree form.now) < 2 ^ 32 }
+    ensures read { Gives (λ after. (clause.new, after)) result
+        (clause_means scope.now locals.now in_operation at (clause_tree form.now)) }
+    ensures place { IfOk result (λ after. after + 1 ≡ at + clause_line_size (clause_tree form.now)) }
 {
-    let Some((form, after)) = quantified_at(start) else {
-        return Err(ParseFault::Syntax { at: start.at });
-    };
-    bind_all(scope, locals, &mut clause.bound, start.at, form)?;
+    bind_all(scope, locals, &mut clause.bound, at, form.bound)?;
     let reach = Reach {
         scope,
         locals,
         in_operation,
         bound: &clause.bound,
     };
-    let rest = read_literals(&reach, &mut clause.literals, after)?;
-    match semicolon_at(rest) {
-        Some(end) => Ok(end),
-        None => Err(ParseFault::Syntax { at: rest.at }),
-    }
+    let first = at + bound_size(form.bound);
+    clause.literals.push(literal(&reach, first, form.first)?)?;
+    let others = first + literal_size(form.first);
+    add_literals(&reach, &mut clause.literals, others, form.others.as_slice())
 }
 
-/// A clause and its semicolon, in an operation with these locals or in an invariant.
-pub fn read_clause_line<'a>(
+/// A clause at a place and its semicolon, in an operation with these locals or in an invariant; and the
+/// place after them.
+#[tactic(auto, unfolding(crate::specs::Meaning::clause_line_means))]
+pub fn clause_line(
     alloc: Global,
     scope: &Scope,
     locals: &[Local],
     in_operation: bool,
-    start: Rest<'a>,
-) -> Parsed<'a, Clause>
-    requires { length locals.now ≤ most_locals }
-    ensures read { Gives (λ r. read_with r.0 r.1) result
-        (clause_line_in scope.now locals.now in_operation start.entry.at (kinds_left start.entry)) }
-    ensures place { IfOk result (λ r. Within start.entry r.1) }
+    at: u32,
+    form: &ClauseForm,
+) -> Result<(Clause, u32), ParseFault>
+    requires locals { length locals.now ≤ most_locals }
+    requires place { at + clause_line_size (clause_tree form.now) < 2 ^ 32 }
+    ensures read { Gives (λ r. (r.0, r.1)) result
+        (clause_line_means scope.now locals.now in_operation at (clause_tree form.now)) }
+    ensures place { IfOk result (λ r. r.1 ≡ at + clause_line_size (clause_tree form.now)) }
 {
     let mut clause = Clause {
         bound: Names::new(alloc, MOST_BOUND),
         literals: Items::new(alloc),
     };
-    match read_into(scope, locals, in_operation, &mut clause, start) {
-        Ok(rest) => Ok((clause, rest)),
+    match add_all(scope, locals, in_operation, &mut clause, at, form) {
+        Ok(after) => Ok((clause, after + 1)),
         Err(fault) => Err(fault),
     }
 }

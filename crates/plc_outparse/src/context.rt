@@ -1,4 +1,4 @@
-// What the file says that its outline speaks of. It is known as a whole before the first item is read.
+// What the file says that its outline speaks of. It is known as a whole before any item's meaning is worked out.
 use plc_base::Items;
 use plc_lang::Op;
 use plc_scope::Scope;

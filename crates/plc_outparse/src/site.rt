@@ -1,22 +1,19 @@
 // Where items put their clauses: over an operation, or at labels that stand in one operation. No local
 // is in reach where these are named.
-ghost use Rattle.std.specs.Prelude.{◌≡◌, ◌+◌, ◌<◌, ◌≤◌, ◌^◌, Some, IfOk, length};
+ghost use Rattle.std.specs.Prelude.{◌≡◌, ◌+◌, ◌*◌, ◌<◌, ◌≤◌, ◌^◌, Some, IfOk, length, map};
 ghost use Rattle.plc_base.specs.Limits.{most};
 ghost use Rattle.plc_base.specs.declared.limits.What1.TheVariants as limits;
 ghost use Rattle.plc_base.specs.Names.{place_of};
-ghost use Rattle.plc_scope.specs.Answers.{Gives, Within};
+ghost use Rattle.plc_syntax.specs.Views.{text_of};
+ghost use Rattle.plc_scope.specs.Answers.{Gives};
 ghost use Rattle.plc_scope.specs.Scope.{most_locals};
 ghost use Rattle.plc_outparse.specs.Context.{HasFewLabels, IsWithinLimits};
 ghost use Rattle.plc_lang.specs.Locals.{locals_of};
-ghost use Rattle.plc_outparse.specs.Meaning.{op_named, op_at, label_named, label_at, label_step};
-ghost use Rattle.plc_outparse.specs.Reading.{labels_in, all_labels_in};
-ghost use Rattle.plc_outparse.specs.Views.{read_with, kinds_left};
+ghost use Rattle.plc_outparse.specs.Meaning.{op_named, op_at, label_named, label_at, label_step, in_turn, labels_mean};
 
 use crate::context::Context;
-use crate::item_form::colon_at;
 use crate::reach::known;
 use plc_base::Items;
-use plc_forms::{Rest, comma_name_at};
 use plc_lang::{Local, Op, locals_of, op_of_label};
 use plc_scope::{ParseFault, Scope};
 use std::alloc::Global;
@@ -122,52 +119,50 @@ fn add_label(
     Ok(())
 }
 
-/// The labels after the first.
-fn read_further_labels<'a>(
+/// The labels after the first, from a place on; and the place after them.
+fn add_labels(
     context: &Context,
     op: usize,
     labels: &mut Items<u16>,
-    start: Rest<'a>,
-) -> Result<Rest<'a>, ParseFault>
+    start: u32,
+    names: &[&[u8]],
+) -> Result<u32, ParseFault>
     requires limits { IsWithinLimits context.now }
-    ensures read { Gives (read_with labels.new) result
-        (labels_in context.now.scope.now context.now.by_op.now op (labels.old, start.entry.at)
-        (kinds_left start.entry)) }
-    ensures place { IfOk result (λ r. Within start.entry r) }
+    requires place { start + 2 * length (map text_of names.now) < 2 ^ 32 }
+    ensures read { Gives (λ after. (labels.new, after)) result
+        (in_turn (label_step context.now.scope.now context.now.by_op.now op) (labels.old, start)
+        (map text_of names.now)) }
+    ensures place { IfOk result (λ after. after ≡ start + 2 * length (map text_of names.now)) }
 {
-    let mut rest = start;
-    for _ in 0..start.tokens.len() {
-        let Some((name, after)) = comma_name_at(rest) else {
-            return Ok(rest);
-        };
-        add_label(context, op, labels, rest.at, name)?;
-        rest = after;
+    let mut at = start;
+    for name in names {
+        add_label(context, op, labels, at, *name)?;
+        at += 2;
     }
-    Err(ParseFault::Syntax { at: rest.at })
+    Ok(at)
 }
 
-/// Labels and their colon, from after the name of the first one, which stands at the place; and the
-/// operation in which they stand.
-#[tactic(auto, unfolding(crate::specs::Reading::all_labels_in))]
-pub fn read_labels<'a>(
+/// Labels and their colon, of which the first one's name stands at the place; with the operation in which
+/// all of them stand, and the place after the colon.
+#[tactic(auto, unfolding(crate::specs::Meaning::labels_mean))]
+pub fn labels(
     alloc: Global,
     context: &Context,
     at: u32,
     name: &[u8],
-    start: Rest<'a>,
-) -> Result<(Items<u16>, usize, Rest<'a>), ParseFault>
+    others: &[&[u8]],
+) -> Result<(Items<u16>, usize, u32), ParseFault>
     requires limits { IsWithinLimits context.now }
-    requires name { start.at ≡ at + 1 }
-    ensures read { Gives (λ r. (((r.0, r.2.at), r.1), kinds_left r.2)) result
-        (all_labels_in context.now.scope.now context.now.by_op.now at name.now (kinds_left start.entry)) }
-    ensures place { IfOk result (λ r. Within start.entry r.2) }
+    requires place { at + 2 + 2 * length (map text_of others.now) < 2 ^ 32 }
+    ensures read { Gives (λ r. ((r.0, r.2), r.1)) result
+        (labels_mean context.now.scope.now context.now.by_op.now at name.now (map text_of others.now)) }
+    ensures place { IfOk result (λ r. r.2 ≡ at + 2 + 2 * length (map text_of others.now)) }
 {
     let (first, op) = label_at(context, name, at)?;
     let mut labels = Items::new(alloc);
     labels.push(first)?;
-    let rest = read_further_labels(context, op, &mut labels, start)?;
-    match colon_at(rest) {
-        Some(after) => Ok((labels, op, after)),
-        None => Err(ParseFault::Syntax { at: rest.at }),
+    match add_labels(context, op, &mut labels, at + 1, others) {
+        Ok(after) => Ok((labels, op, after + 1)),
+        Err(fault) => Err(fault),
     }
 }

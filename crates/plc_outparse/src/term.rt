@@ -2,22 +2,21 @@
 // an equation has to be of the first one's sort.
 ghost use Rattle.std.specs.Prelude.{◌≡◌, ◌+◌, ◌<◌, ◌≤◌, ◌^◌, length, Option, Some, None};
 ghost use Rattle.plc_syntax.specs.Trees.{PlaceOf, RetiredFlag, MarkedFlag};
-ghost use Rattle.plc_forms.specs.Sizes.{place_size};
-ghost use Rattle.plc_forms.specs.Views.{place_tree};
+ghost use Rattle.plc_syntax.specs.Sizes.{place_size};
+ghost use Rattle.plc_syntax.specs.Views.{place_tree, term_tree, flag_tree, literal_tree};
 ghost use Rattle.plc_scope.specs.Answers.{Gives};
 ghost use Rattle.plc_scope.specs.Scope.{most_locals};
 ghost use Rattle.plc_outparse.specs.Meaning.{place_means, me_means, term_means, sort_place, second_means};
 ghost use Rattle.plc_outparse.specs.Meaning.{pointer_means, flag_means, literal_means};
 ghost use Rattle.plc_outparse.specs.Reach.{base_term, as_term, as_field, as_pointer, as_pointer_field};
 ghost use Rattle.plc_outparse.specs.Sizes.{term_size, flag_size, literal_size};
-ghost use Rattle.plc_outparse.specs.Views.{side_tree, flag_tree, literal_tree, reach_of};
+ghost use Rattle.plc_outparse.specs.Views.{reach_of};
 
-use crate::form::{FlagForm, LiteralForm, Side};
 use crate::kind::Kind;
 use crate::reach::{Reach, base_at, kind_at};
-use plc_forms::Place;
 use plc_logic::{Base, Literal, Sort, Term};
 use plc_scope::ParseFault;
+use plc_syntax::{Flag as FlagForm, Literal as LiteralForm, Place, Term as TermForm};
 
 /// The term that a base alone is.
 fn base_term(base: Base) -> Term
@@ -103,44 +102,44 @@ fn me(in_operation: bool, at: u32) -> Result<(Term, Sort), ParseFault>
 
 /// A term with its sort.
 #[tactic(auto, unfolding(crate::specs::Meaning::term_means))]
-fn term(reach: &Reach, at: u32, side: Side) -> Result<(Term, Sort), ParseFault>
+fn term(reach: &Reach, at: u32, form: TermForm) -> Result<(Term, Sort), ParseFault>
     requires locals { length reach.now.locals.now ≤ most_locals }
-    requires place { at + term_size (side_tree side) < 2 ^ 32 }
-    ensures { Gives (λ r. (r.0, r.1)) result (term_means (reach_of reach.now) at (side_tree side.entry)) }
+    requires place { at + term_size (term_tree form) < 2 ^ 32 }
+    ensures { Gives (λ r. (r.0, r.1)) result (term_means (reach_of reach.now) at (term_tree form.entry)) }
 {
-    match side {
-        Side::Place(form) => place(reach, at, form),
-        Side::Null => Ok((Term::Null, Sort::Node)),
-        Side::Number(n) => Ok((Term::Number(n), Sort::Number)),
-        Side::Me => me(reach.in_operation, at),
-        Side::None => Ok((Term::Nobody, Sort::Thread)),
+    match form {
+        TermForm::Place(named) => place(reach, at, named),
+        TermForm::Null => Ok((Term::Null, Sort::Node)),
+        TermForm::Number(n) => Ok((Term::Number(n), Sort::Number)),
+        TermForm::Me => me(reach.in_operation, at),
+        TermForm::None => Ok((Term::Nobody, Sort::Thread)),
     }
 }
 
 /// The token by which a term has its sort.
-fn sort_place(at: u32, side: Side) -> u32
-    requires { at + term_size (side_tree side) < 2 ^ 32 }
-    ensures { result ≡ sort_place at (side_tree side.entry) }
+fn sort_place(at: u32, form: TermForm) -> u32
+    requires { at + term_size (term_tree form) < 2 ^ 32 }
+    ensures { result ≡ sort_place at (term_tree form.entry) }
 {
-    match side {
-        Side::Place(Place { field: Some(_), .. }) => at + 2,
+    match form {
+        TermForm::Place(Place { field: Some(_), .. }) => at + 2,
         _ => at,
     }
 }
 
 /// The second term of an equation, which has the sort of the first.
 #[tactic(auto, unfolding(crate::specs::Meaning::second_means))]
-fn second(reach: &Reach, sort: Sort, at: u32, side: Side) -> Result<Term, ParseFault>
+fn second(reach: &Reach, sort: Sort, at: u32, form: TermForm) -> Result<Term, ParseFault>
     requires locals { length reach.now.locals.now ≤ most_locals }
-    requires place { at + term_size (side_tree side) < 2 ^ 32 }
-    ensures { Gives (λ r. r) result (second_means (reach_of reach.now) sort at (side_tree side.entry)) }
+    requires place { at + term_size (term_tree form) < 2 ^ 32 }
+    ensures { Gives (λ r. r) result (second_means (reach_of reach.now) sort at (term_tree form.entry)) }
 {
-    let (second, found) = term(reach, at, side)?;
+    let (second, found) = term(reach, at, form)?;
     if found == sort {
         Ok(second)
     } else {
         Err(ParseFault::WrongSort {
-            at: sort_place(at, side),
+            at: sort_place(at, form),
         })
     }
 }
@@ -249,18 +248,39 @@ pub fn literal(reach: &Reach, at: u32, form: LiteralForm) -> Result<Literal, Par
         LiteralForm::Not(form) => flag(reach, false, at + 1, form),
         LiteralForm::Equation(left, equal, right) => {
             let (a, sort) = term(reach, at, left)?;
-            let b = second(reach, sort, at + side_size(left) + 1, right)?;
+            let b = second(reach, sort, at + term_size(left) + 1, right)?;
             Ok(Literal::Same { a, b, equal })
         }
     }
 }
 
-/// How many tokens a side has.
-fn side_size(side: Side) -> u32
-    ensures { result ≡ term_size (side_tree side.entry) }
+/// How many tokens a side of an equation has.
+fn term_size(form: TermForm) -> u32
+    ensures { result ≡ term_size (term_tree form.entry) }
 {
-    match side {
-        Side::Place(Place { field: Some(_), .. }) => 3,
+    match form {
+        TermForm::Place(Place { field: Some(_), .. }) => 3,
         _ => 1,
+    }
+}
+
+/// How many tokens a flag has.
+fn flag_size(form: FlagForm) -> u32
+    ensures { result ≡ flag_size (flag_tree form.entry) }
+{
+    match form {
+        FlagForm::Marked(Place { field: Some(_), .. }) => 6,
+        _ => 4,
+    }
+}
+
+/// How many tokens a literal has, without an "or" before it.
+pub fn literal_size(form: LiteralForm) -> u32
+    ensures { result ≡ literal_size (literal_tree form.entry) }
+{
+    match form {
+        LiteralForm::Flag(form) => flag_size(form),
+        LiteralForm::Not(form) => 1 + flag_size(form),
+        LiteralForm::Equation(left, _, right) => term_size(left) + 1 + term_size(right),
     }
 }

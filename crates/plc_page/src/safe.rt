@@ -6,7 +6,7 @@ use plc_html::Html;
 pub(crate) fn push_safe(html: &mut Html) -> Written {
     html.markup(
         "<h2>Safe</h2>\n<p>In no run of this program, with any number of threads, is a step a pointer race \
-         or a second retire, whatever allowed frees the reclaimer chooses. Each claim and each clause of the outline is \
-         true in every run.</p>\n",
+         or a second retire, whatever allowed frees the reclaimer chooses. Each claim and each clause of the \
+         outline is true in every run.</p>\n",
     )
 }

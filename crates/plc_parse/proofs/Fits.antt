@@ -12,7 +12,7 @@ use Rattle.plc_lang.specs.declared.syntax.Ghost.{Ghost}
 use Rattle.plc_lang.specs.declared.syntax.Local.{Local}
 use Rattle.plc_lang.specs.Allocation.{is_new}
 use Rattle.plc_syntax.specs.Trees.{Text, FieldTree, PointerField, DataField, FunctionTree, Declares, GhostTree, Auxiliary, OneOf, OfThreads, InitialTree, BlockTree, OpTree, Operates, FileTree}
-use Rattle.plc_forms.specs.Sizes.{initial_size, primitive_size}
+use Rattle.plc_syntax.specs.Sizes.{initial_size, primitive_size}
 use Rattle.plc_scope.specs.declared.fault.ParseFault.{ParseFault}
 use Rattle.plc_scope.specs.declared.fault.ParseFault.TheVariants as faults
 use Rattle.plc_scope.specs.declared.scope.Scope.{Scope}

@@ -1,15 +1,15 @@
 -- What was declared before and what is declared next.
-use Rattle.std.proofs.Common.{◌≡◌, ◌⊎◌, inl, inr, ◌+◌, ◌≤◌, ◌<◌, ℕ, zero, suc, Bool, List, [], ◌∷◌, ◌++◌, length, slice_get, Option, Some, None, Ok, ◌∙◌, refl, ap, arith}
+use Rattle.std.proofs.Common.{◌≡◌, ◌⊎◌, inl, inr, ◌+◌, ◌≤◌, ◌<◌, ℕ, zero, suc, Bool, List, [], ◌∷◌, ◌++◌, length, slice_get, Option, Some, None, Ok, ◌∙◌, refl, ap, subst, arith}
 use Rattle.std.proofs.lemmas.List.{length-append}
 use Rattle.plc_base.specs.Names.{place_of}
-use Rattle.plc_forms.specs.declared.rest.Rest.{Rest}
-use Rattle.plc_forms.specs.Views.{After}
 use Rattle.plc_syntax.specs.Trees.{Text}
 use Rattle.plc_scope.specs.declared.scope.Scope.{Scope}
 use Rattle.plc_scope.specs.declared.binding.Binding.{Binding}
 use Rattle.plc_scope.specs.declared.binding.Binding.TheVariants.{Taken}
 use Rattle.plc_scope.specs.Scope.{◌>>=◌, if_new, with_name, with_label, declared, declared_label, declared_local, declared_parameter}
-use Rattle.plc_scope.specs.Answers.{GrowsBy, HasRoomForLocals, GrowsByLocals, Within}
+use Rattle.plc_scope.specs.Answers.{HasRoomForLocals, GrowsByLocals}
+use Rattle.plc_lang.specs.declared.syntax.Op.{Op}
+use Rattle.plc_outparse.specs.Answers.{OpsFit}
 use Rattle.plc_parse.specs.Growth.{most_labels, KeepsLists, CanLabel, GrowsByLabels, GrowsByOps}
 use Rattle.plc_scope.proofs.Holds.{has_along}
 use Rattle.plc_parse.proofs.Fits.{Few, parameter_few, local_few}
@@ -55,17 +55,11 @@ can_still_label a b h g = record { locals = rw g.locals h.locals; labels = g.lab
 pub ops_then : (a b c : Scope) (n k : ℕ) → n + 33 ≡ k → GrowsByOps a b n → GrowsByOps b c 33 → GrowsByOps a c k
 ops_then a b c n k e g h = record { locals = h.locals; labels = h.labels; names = omega (arith, g.names, h.names); limit = h.limit ∙ g.limit }
 
-pub grows_then : (a b c : Scope) (n m k : ℕ) → n + m ≤ k → GrowsBy a b n → GrowsBy b c m → GrowsBy a c k
-grows_then a b c n m k le g h = record { names = omega (arith, g.names, h.names); limit = h.limit ∙ g.limit }
-
 pub lists_then : (a b c : Scope) → KeepsLists a b → KeepsLists b c → KeepsLists a c
 lists_then a b c g h = record { locals = h.locals ∙ g.locals; labels = h.labels ∙ g.labels }
 
 pub locals_then : (a b c : Scope) → GrowsByLocals a b → GrowsByLocals b c → GrowsByLocals a c
 locals_then a b c g h = record { locals = h.locals; names = omega (arith, g.names, h.names); limit = h.limit ∙ g.limit }
-
-pub within_then : (a b c : Rest) (n : ℕ) → Within a b → After b n c → Within a c
-within_then a b c n w h = record { end = omega (arith, w.end, h.at, h.tokens) }
 
 -- what is in a list with one more is in the list, or is the one more
 pub from_last : {A : Type 0} (xs : List A) (y : A) (i : ℕ) (x : A) → slice_get (xs ++ y ∷ []) i ≡ Some x → (slice_get xs i ≡ Some x) ⊎ ((i ≡ length xs) × (y ≡ x))
@@ -73,3 +67,14 @@ from_last [] y zero x e = inr (refl, cc)
 from_last [] y (suc i) x e = absurd cc
 from_last (z ∷ xs) y zero x e = inl e
 from_last (z ∷ xs) y (suc i) x e = elim (from_last xs y i x e) [ inl h ↦ inl h | inr h ↦ inr (ap suc h.0, h.1) ]
+
+-- an operation more
+pub ops_fit_more : (ops new : List Op) (op : Op) → new ≡ ops ++ op ∷ [] → OpsFit ops → length ops < 32
+    → length op.locals ≤ 32 → OpsFit new
+ops_fit_more ops new op e fit less few = rw e (record {
+  count = let long = length-append ops (op ∷ []) in omega arith;
+  locals = λ k o is. elim (from_last ops op k o is) [
+    | inl h ↦ fit.locals k o h
+    | inr h ↦ subst (λ (x : Op). length x.locals ≤ 32) h.1 few
+  ];
+})

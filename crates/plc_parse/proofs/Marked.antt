@@ -33,7 +33,7 @@ use Rattle.plc_syntax.specs.Marks.{init_uses_marks, test_uses_marks, condition_t
 use Rattle.plc_syntax.specs.Marks.{statement_tree_uses_marks, block_uses_marks, else_uses_marks, or_uses_marks}
 use Rattle.plc_syntax.specs.Marks.{op_uses_marks, outline_tree_uses_marks, outlined_uses_marks, file_tree_uses_marks}
 use Rattle.plc_syntax.proofs.Marked.{marks_spelled}
-use Rattle.plc_forms.specs.Sizes.{initial_size, primitive_size, condition_size, call_size, word_size}
+use Rattle.plc_syntax.specs.Sizes.{initial_size, primitive_size, condition_size, call_size, word_size}
 use Rattle.plc_scope.specs.declared.fault.ParseFault.{ParseFault}
 use Rattle.plc_scope.specs.declared.scope.Scope.{Scope}
 use Rattle.plc_scope.specs.declared.binding.Binding.TheVariants.{Taken}

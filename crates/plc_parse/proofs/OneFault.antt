@@ -3,7 +3,7 @@
 use Rattle.std.proofs.Common.{◌≡◌, ◌≢◌, List, Result, Ok, Err, ap, sym, ◌∙◌}
 use Rattle.plc_lex.specs.declared.token.Token.{Token}
 use Rattle.plc_syntax.specs.Syntax.{kinds}
-use Rattle.plc_syntax.proofs.Places.{faults_one}
+use Rattle.plc_tree.proofs.Places.{faults_one}
 use Rattle.plc_scope.specs.declared.fault.ParseFault.{ParseFault}
 use Rattle.plc_scope.specs.declared.fault.ParseFault.TheVariants as faults
 use Rattle.plc_parse.specs.declared.unit.Unit.{Unit as FileUnit}

@@ -19,7 +19,7 @@ use Rattle.plc_lang.specs.Locals.{is_pointer, is_parameter}
 use Rattle.plc_lang.specs.Statements.{Statement, Statements, Blocks}
 use Rattle.plc_lang.specs.WellSorted.{AreWellSorted, is_call, ConditionIsWellSorted, StatementIsWellSorted, StatementsAreWellSorted, BlocksAreWellSorted, ParametersAreFirst, OpIsWellSorted}
 use Rattle.plc_syntax.specs.Trees.{Text, FieldTree, PointerField as PointerFieldTree, DataField as DataFieldTree, StatementTree, PrimitiveStatement, AtomicStatement, CallStatement, IfStatement, ChooseStatement, LoopStatement, BreakStatement, ReturnStatement, LabelStatement, BlockTree, NoStatement, Then as ThenStatement, ElseTree, NoElse, ElseBlock, OrTree, NoOr, OrBlock, OpTree, Operates}
-use Rattle.plc_forms.specs.Sizes.{primitive_size, condition_size, call_size}
+use Rattle.plc_syntax.specs.Sizes.{primitive_size, condition_size, call_size}
 use Rattle.plc_scope.specs.declared.fault.ParseFault.{ParseFault}
 use Rattle.plc_scope.specs.declared.scope.Scope.{Scope}
 use Rattle.plc_scope.specs.declared.binding.Binding.TheVariants.{Taken}

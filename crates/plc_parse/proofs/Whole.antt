@@ -11,7 +11,7 @@ use Rattle.plc_auto.specs.declared.observer.Observer.{Observer}
 use Rattle.plc_auto.specs.declared.observer.Observer.TheVariants.{Plain, Hazard, Epoch}
 use Rattle.plc_logic.specs.Fit.{OutlineFits}
 use Rattle.plc_syntax.specs.Trees.{InitialTree, WatchTree, UseHazard, UseEpoch, FileTree}
-use Rattle.plc_forms.specs.Sizes.{initial_size}
+use Rattle.plc_syntax.specs.Sizes.{initial_size}
 use Rattle.plc_scope.specs.declared.fault.ParseFault.{ParseFault}
 use Rattle.plc_scope.specs.declared.scope.Scope.{Scope}
 use Rattle.plc_scope.specs.declared.binding.Binding.TheVariants.{Taken}

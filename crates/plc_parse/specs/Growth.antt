@@ -1,19 +1,10 @@
--- What is left of the tokens, and how the names in reach grow.
-use Rattle.std.specs.Prelude.{◌≡◌, ◌+◌, ◌*◌, ◌≤◌, ℕ, [], length, List, Result, IfOk}
+-- How the names in reach grow.
+use Rattle.std.specs.Prelude.{◌≡◌, ◌+◌, ◌*◌, ◌≤◌, ℕ, [], length}
 use Rattle.plc_base.specs.declared.limits.What1.TheVariants as limits
 use Rattle.plc_base.specs.Limits.{most}
-use Rattle.plc_lex.specs.declared.token.TokenKind.{TokenKind}
-use Rattle.plc_forms.specs.declared.rest.Rest.{Rest}
 use Rattle.plc_scope.specs.declared.scope.Scope.{Scope}
 use Rattle.plc_scope.specs.Scope.{most_locals}
-use Rattle.plc_scope.specs.Answers.{Gives, GrowsBy, GrowsByLocals, Within}
-use Rattle.plc_scope.specs.Read.{ReadTo}
-use Rattle.plc_scope.specs.declared.fault.ParseFault.{ParseFault}
-use Rattle.plc_outparse.specs.Views.{read_with, kinds_left}
-
--- of so many tokens, this is left
-pub record IsLeftOf (total : ℕ) (rest : Rest) : Type 0 where
-  pub end : rest.at + length rest.tokens.now ≡ total
+use Rattle.plc_scope.specs.Answers.{GrowsBy, GrowsByLocals}
 
 -- neither locals nor labels were declared
 pub record KeepsLists (old new : Scope) : Type 0 where
@@ -25,26 +16,10 @@ pub record AddsNames (old new : Scope) (count : ℕ) : Type 0 where
   pub names : GrowsBy old new count
   pub lists : KeepsLists old new
 
--- names were, and what is left ends where that before ended
-pub record AddsNamesWithin (old new : Scope) (count : ℕ) (before after : Rest) : Type 0 where
-  pub declares : AddsNames old new count
-  pub place : Within before after
-
 -- locals were declared, and no label
 pub record AddsLocals (old new : Scope) : Type 0 where
   pub names : GrowsByLocals old new
   pub labels : new.labels ≡ old.labels
-
--- locals were, and what is left ends where that before ended
-pub record AddsLocalsWithin (old new : Scope) (before after : Rest) : Type 0 where
-  pub declares : AddsLocals old new
-  pub place : Within before after
-
--- locals are read as is meant, and where they are read they were declared
-pub record ReadsLocals (meant : Scope → ℕ → List TokenKind → ReadTo (Scope × ℕ)) (old new : Scope) (start : Rest)
-    (answer : Result Rest ParseFault) : Type 0 where
-  pub read : Gives (read_with new) answer (meant old start.at (kinds_left start))
-  pub declares : IfOk answer (λ rest. AddsLocalsWithin old new start rest)
 
 -- the names that an auxiliary field declares: its own, its values, and the one past their limit
 abbrev pub ghost_names : ℕ
@@ -71,26 +46,11 @@ pub record GrowsByLabels (old new : Scope) : Type 0 where
   pub names : length new.names.names + length old.labels ≤ length old.names.names + length new.labels
   pub limit : new.names.limit ≡ old.names.limit
 
--- labels were, and what is left ends where that before ended
-pub record AddsLabelsWithin (old new : Scope) (before after : Rest) : Type 0 where
-  pub grows : GrowsByLabels old new
-  pub place : Within before after
-
--- statements can be read: labels can be declared, and this is left of so many tokens
-pub record CanReadBlock (total : ℕ) (scope : Scope) (rest : Rest) : Type 0 where
-  pub room : CanLabel scope
-  pub place : IsLeftOf total rest
-
--- statements were read: labels were declared, and this is left of so many tokens
-pub record ReadsBlock (total : ℕ) (old new : Scope) (rest : Rest) : Type 0 where
-  pub grows : GrowsByLabels old new
-  pub place : IsLeftOf total rest
-
 -- the names that an operation declares beside its labels: its own and its locals
 abbrev pub op_names : ℕ
 op_names = most_locals + 1
 
--- an operation can be read: there is room for its names, all labels and one past them, and locals of none before are
+-- an operation can be declared: there is room for its names, all labels and one past them, and no local before it is
 -- in reach
 pub record CanOperate (scope : Scope) : Type 0 where
   pub locals : scope.locals ≡ []

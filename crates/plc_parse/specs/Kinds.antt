@@ -1,72 +1,79 @@
 -- The kinds of declarations that are listed, and of forms that a step is made of.
-use Rattle.std.specs.Prelude.{ℕ, List, Option, Result}
+use Rattle.std.specs.Prelude.{ℕ, Option, Result}
 use Rattle.plc_base.specs.Limits.{most}
 use Rattle.plc_base.specs.declared.limits.What1.TheVariants as limits
-use Rattle.plc_lex.specs.declared.token.TokenKind.{TokenKind}
 use Rattle.plc_lang.specs.declared.syntax.Field.{Field}
 use Rattle.plc_lang.specs.declared.syntax.Func.{Func}
 use Rattle.plc_lang.specs.declared.syntax.Ghost.{Ghost}
 use Rattle.plc_lang.specs.declared.syntax.Primitive.{Primitive}
-use Rattle.plc_syntax.specs.Trees.{Text, FieldTree, FunctionTree, PrimitiveTree, InitialTree}
-use Rattle.plc_forms.specs.Forms.{field_of, shared_of, function_of, ghost_of, primitive_line_of, initial_line_of}
-use Rattle.plc_forms.specs.Sizes.{primitive_size, initial_size}
+use Rattle.plc_syntax.specs.Trees.{Text, FieldTree, FunctionTree, GhostTree, PrimitiveTree, InitialTree}
+use Rattle.plc_syntax.specs.declared.form.Declaration.{Declaration}
+use Rattle.plc_syntax.specs.declared.form.Function.{Function}
+use Rattle.plc_syntax.specs.declared.form.Initial.{Initial}
+use Rattle.plc_syntax.specs.declared.form.Primitive.{Primitive as PrimitiveForm}
+use Rattle.plc_syntax.specs.Sizes.{primitive_size, initial_size, function_size}
+use Rattle.plc_syntax.specs.Views.{field_tree, function_tree, primitive_tree, initial_tree, shared_name}
+use Rattle.plc_tree.specs.declared.form.Auxiliary.{Auxiliary}
+use Rattle.plc_syntax.specs.declared.form.Shared.{Shared}
+use Rattle.plc_tree.specs.FormViews.{auxiliary_tree}
 use Rattle.plc_scope.specs.Primitives.{primitive_means, initial_means}
-use Rattle.plc_scope.specs.Read.{ReadTo}
 use Rattle.plc_scope.specs.declared.fault.ParseFault.{ParseFault}
 use Rattle.plc_scope.specs.declared.scope.Scope.{Scope}
 use Rattle.plc_parse.specs.Growth.{ghost_names}
-use Rattle.plc_parse.specs.Meaning.{field_means, shared_means, function_means}
-use Rattle.plc_parse.specs.Reading.{judged, ghost_in}
+use Rattle.plc_parse.specs.Meaning.{field_means, shared_means, function_means, ghost_means}
+use Rattle.plc_parse.specs.Sizes.{field_size, shared_size, ghost_size}
 
--- how a declaration begins, what it is read as, how many there may be, and how many names each may declare
-pub record Kind (Y : Type 0) : Type 1 where
-  pub Head : Type 0
-  pub head : List TokenKind → Option (Head × List TokenKind)
-  pub body : Scope → ℕ → ℕ → Head → List TokenKind → ReadTo (Y × Scope × ℕ)
+-- the tree of a declaration's form, what it means after so many at a place, how many tokens it has, how many of its
+-- kind there may be, and how many names each may declare
+pub record Kind (F Y : Type 0) : Type 1 where
+  pub Tree : Type 0
+  pub tree : F → Tree
+  pub means : Scope → ℕ → ℕ → Tree → Result (Y × Scope × ℕ) ParseFault
+  pub size : Tree → ℕ
   pub limit : ℕ
   pub names : ℕ
 
+-- a kind of which each declares one name
+abbrev pub named : {F Y : Type 0} (T : Type 0) → (F → T) → (Scope → ℕ → ℕ → T → Result (Y × Scope × ℕ) ParseFault)
+    → (T → ℕ) → ℕ → Kind F Y
+named T tree means size limit =
+    record { Tree = T; tree = tree; means = means; size = size; limit = limit; names = 1 }
+
 -- the fields of the struct
-abbrev pub fields : Kind Field
-fields = record { Head = FieldTree; head = field_of; body = judged field_means; limit = most limits.Fields; names = 1 }
+abbrev pub fields : Kind Declaration Field
+fields = named FieldTree field_tree field_means field_size (most limits.Fields)
 
 -- the shared pointers, by the numbers of their names
-abbrev pub shared_pointers : Kind ℕ
-shared_pointers =
-    record { Head = Text; head = shared_of; body = judged shared_means; limit = most limits.Shared; names = 1 }
+abbrev pub shared_pointers : Kind Shared ℕ
+shared_pointers = named Text shared_name shared_means shared_size (most limits.Shared)
 
 -- the functions beside `retire`
-abbrev pub functions : Kind Func
-functions = record {
-  Head = FunctionTree;
-  head = function_of;
-  body = judged function_means;
-  limit = most limits.Calls;
-  names = 1;
-}
+abbrev pub functions : Kind Function Func
+functions = named FunctionTree function_tree function_means function_size (most limits.Calls)
 
 -- the auxiliary fields
-abbrev pub auxiliary_fields : Kind Ghost
+abbrev pub auxiliary_fields : Kind Auxiliary Ghost
 auxiliary_fields = record {
-  Head = Text;
-  head = ghost_of;
-  body = ghost_in;
+  Tree = GhostTree;
+  tree = auxiliary_tree;
+  means = ghost_means;
+  size = ghost_size;
   limit = most limits.Ghosts;
   names = ghost_names;
 }
 
--- how a form and its semicolon are read, what the form means at its place, and how many tokens it has
-pub record FormKind : Type 1 where
+-- the tree of a form, what it means at a place, and how many tokens it has without its semicolon
+pub record FormKind (F : Type 0) : Type 1 where
   pub Tree : Type 0
-  pub item : List TokenKind → Option (Tree × List TokenKind)
+  pub tree : F → Tree
   pub means : Scope → ℕ → Tree → Result (Option Primitive) ParseFault
   pub size : Tree → ℕ
 
 -- the forms of an atomic block
-abbrev pub atomic_forms : FormKind
+abbrev pub atomic_forms : FormKind PrimitiveForm
 atomic_forms =
-    record { Tree = PrimitiveTree; item = primitive_line_of; means = primitive_means; size = primitive_size }
+    record { Tree = PrimitiveTree; tree = primitive_tree; means = primitive_means; size = primitive_size }
 
 -- the forms of `init`
-abbrev pub initial_forms : FormKind
-initial_forms = record { Tree = InitialTree; item = initial_line_of; means = initial_means; size = initial_size }
+abbrev pub initial_forms : FormKind Initial
+initial_forms = record { Tree = InitialTree; tree = initial_tree; means = initial_means; size = initial_size }

@@ -4,9 +4,8 @@ pub mod Units
 pub mod Fit
 pub mod Marks
 -- words of private functions alone
-pub mod Reading
 pub mod Growth
-pub mod Views
 pub mod Kinds
-pub mod Turns
-pub mod Front
+pub mod Parts
+pub mod Sizes
+pub mod Views

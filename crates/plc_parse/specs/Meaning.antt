@@ -23,8 +23,8 @@ use Rattle.plc_syntax.specs.Trees.{PrimitiveStatement, AtomicStatement, CallStat
 use Rattle.plc_syntax.specs.Trees.{LoopStatement, BreakStatement, ReturnStatement, LabelStatement, BlockTree}
 use Rattle.plc_syntax.specs.Trees.{NoStatement, Then as ThenStatement, ElseTree, NoElse, ElseBlock, OrTree, NoOr}
 use Rattle.plc_syntax.specs.Trees.{OrBlock, OpTree, Operates, OutlineTree, FileTree}
-use Rattle.plc_forms.specs.Sizes.{initial_size, primitive_size, condition_size, call_size, during_size, function_size}
-use Rattle.plc_forms.specs.Sizes.{watch_size}
+use Rattle.plc_syntax.specs.Sizes.{initial_size, primitive_size, condition_size, call_size, during_size, function_size}
+use Rattle.plc_syntax.specs.Sizes.{watch_size}
 use Rattle.plc_scope.specs.declared.fault.ParseFault.{ParseFault}
 use Rattle.plc_scope.specs.declared.fault.ParseFault.TheVariants as faults
 use Rattle.plc_scope.specs.declared.scope.Scope.{Scope}

@@ -1,21 +1,24 @@
 // Auxiliary fields. One is a thread or one of its values, whose names are declared with it.
-ghost use Rattle.std.specs.Prelude.{◌≡◌, ◌+◌, ◌-◌, ◌*◌, ◌<◌, ◌≤◌, IfOk, [], ◌∷◌};
+ghost use Rattle.std.specs.Prelude.{◌≡◌, ◌+◌, ◌-◌, ◌*◌, ◌<◌, ◌≤◌, ◌^◌, IfOk, length, map};
 ghost use Rattle.plc_base.specs.Limits.{most};
+ghost use Rattle.plc_syntax.specs.Views.{text_of};
 ghost use Rattle.plc_scope.specs.Answers.{Gives, HasRoom};
-ghost use Rattle.plc_parse.specs.Growth.{AddsNames, AddsNamesWithin, ghost_names};
-ghost use Rattle.plc_parse.specs.Meaning.{value_means};
-ghost use Rattle.plc_parse.specs.Reading.{values_in, all_values_in, of_values_in, ghost_in, ghosts_in};
-ghost use Rattle.plc_outparse.specs.Views.{kinds_left};
-ghost use Rattle.plc_parse.specs.Views.{read_in};
+ghost use Rattle.plc_syntax.specs.Trees.{Auxiliary as AuxiliaryTree, OneOf};
+ghost use Rattle.plc_tree.specs.FormViews.{auxiliary_tree};
+ghost use Rattle.plc_parse.specs.Growth.{AddsNames, ghost_names};
+ghost use Rattle.plc_parse.specs.Kinds.{auxiliary_fields};
+ghost use Rattle.plc_parse.specs.Meaning.{value_means, ghost_means};
+ghost use Rattle.plc_parse.specs.Sizes.{ghost_size};
+ghost use Rattle.plc_parse.specs.Views.{values_with};
 
+use crate::auxiliary_name::AuxiliaryName;
 use crate::declaration::declare;
-use crate::heading::Heading;
-use crate::lists::{Listed, Turn, read_listed};
+use crate::lists::Listed;
+use crate::placed::Placed;
 use plc_base::{Items, What1};
-use plc_forms::{Rest, comma_name_at, first_value_at, ghost_at, thread_at, values_end_at};
 use plc_lang::Ghost;
-use plc_outparse::Parsed;
 use plc_scope::{Binding, ParseFault, Scope};
+use plc_tree::{Auxiliary, AuxiliaryKind};
 use std::alloc::Global;
 
 /// One value of an auxiliary field, with so many before it; the number of its name.
@@ -40,149 +43,103 @@ fn declare_value(
     Ok(number)
 }
 
-/// The values from after the first one, which has this number.
-fn read_values<'a>(
+/// The values, of which the first has this number, from a place on; and the place after the last one.
+fn declare_values(
     alloc: Global,
     scope: &mut Scope,
     owner: usize,
     first: u16,
-    start: Rest<'a>,
-) -> Parsed<'a, Items<u16>>
+    start: u32,
+    others: &[&[u8]],
+) -> Placed<Items<u16>>
     requires owner { owner < most What1.Ghosts }
     requires room { HasRoom scope.old (most What1.Values) }
-    ensures read { Gives (λ r. read_in r.0 scope.new r.1) result
-        (values_in owner (first ∷ [], scope.old, start.entry.at) (kinds_left start.entry)) }
-    ensures declares { IfOk result (λ r. AddsNamesWithin scope.old scope.new (most What1.Values - 1) start.entry r.1) }
+    requires place { start + 2 * length (map text_of others.now) < 2 ^ 32 }
+    ensures read { Gives (λ r. (r.0, scope.new, r.1)) result
+        (values_with scope.old owner first start (map text_of others.now)) }
+    ensures place { IfOk result (λ r. r.1 ≡ start + 2 * length (map text_of others.now)) }
+    ensures declares { IfOk result (λ _. AddsNames scope.old scope.new (most What1.Values - 1)) }
 {
     let mut values = Items::new(alloc);
     values.push(first)?;
-    let mut rest = start;
-    while let Some((name, after)) = comma_name_at(rest) {
-        let number = declare_value(scope, owner, values.len(), rest.at + 1, name)?;
+    let mut at = start;
+    for name in others {
+        let number = declare_value(scope, owner, values.len(), at + 1, *name)?;
         values.push(number)?;
-        rest = after;
+        at += 2;
     }
-    Ok((values, rest))
+    Ok((values, at))
 }
 
-/// All values, from after the first one's name, which stands at a place.
-#[tactic(auto, unfolding(crate::specs::Reading::all_values_in))]
-fn read_all_values<'a>(
+/// An auxiliary field that is one of its values; and the place after it.
+#[tactic(auto, unfolding(crate::specs::Views::values_with))]
+fn declare_of_values(
     alloc: Global,
     scope: &mut Scope,
-    owner: usize,
-    at: u32,
-    name: &[u8],
-    start: Rest<'a>,
-) -> Parsed<'a, Items<u16>>
-    requires owner { owner < most What1.Ghosts }
-    requires room { HasRoom scope.old (most What1.Values + 1) }
-    requires name { start.at ≡ at + 1 }
-    ensures read { Gives (λ r. read_in r.0 scope.new r.1) result
-        (all_values_in owner scope.old at name.now (kinds_left start.entry)) }
-    ensures declares { IfOk result (λ r. AddsNamesWithin scope.old scope.new (most What1.Values) start.entry r.1) }
-{
-    let first = declare_value(scope, owner, 0, at, name)?;
-    let (values, rest) = read_values(alloc, scope, owner, first, start)?;
-    match values_end_at(rest) {
-        Some(after) => Ok((values, after)),
-        None => Err(ParseFault::Syntax { at: rest.at }),
-    }
-}
-
-/// An auxiliary field that is one of its values, from after the name of the first one.
-#[tactic(auto, unfolding(crate::specs::Reading::of_values_in))]
-fn read_of_values<'a>(
-    alloc: Global,
-    scope: &mut Scope,
-    head: Heading,
-    value: &[u8],
-    start: Rest<'a>,
-) -> Parsed<'a, Ghost>
+    head: AuxiliaryName,
+    first: &[u8],
+    others: &[&[u8]],
+) -> Placed<Ghost>
     requires limit { head.count < most What1.Ghosts }
     requires room { HasRoom scope.old ghost_names }
-    requires value { start.at ≡ head.at + 4 }
-    ensures read { Gives (λ r. read_in r.0 scope.new r.1) result
-        (of_values_in scope.old head.entry.count head.entry.at head.entry.name.now value.now (kinds_left start.entry)) }
-    ensures declares { IfOk result (λ r. AddsNamesWithin scope.old scope.new (most What1.Values + 1) start.entry r.1) }
+    requires place { head.at + 6 + 2 * length (map text_of others.now) < 2 ^ 32 }
+    ensures read { Gives (λ r. (r.0, scope.new, r.1)) result
+        (ghost_means scope.old head.entry.count head.entry.at
+        (AuxiliaryTree head.entry.name.now (OneOf first.now (map text_of others.now)))) }
+    ensures place { IfOk result (λ r. r.1 ≡ head.entry.at + 6 + 2 * length (map text_of others.now)) }
+    ensures declares { IfOk result (λ _. AddsNames scope.old scope.new (most What1.Values + 1)) }
 {
     let binding = Binding::Auxiliary(head.count as u16, false);
     let name = declare(scope, head.name, head.at + 1, binding)?;
-    let (values, rest) = read_all_values(alloc, scope, head.count, head.at + 3, value, start)?;
-    Ok((Ghost { name, values }, rest))
+    let first = declare_value(scope, head.count, 0, head.at + 3, first)?;
+    let (values, after) = declare_values(alloc, scope, head.count, first, head.at + 4, others)?;
+    Ok((Ghost { name, values }, after + 2))
 }
 
-/// An auxiliary field, from after its name.
-#[tactic(auto, unfolding(crate::specs::Reading::ghost_in, crate::specs::Reading::of_threads_in))]
-fn read_ghost<'a>(
+/// An auxiliary field; and the place after it.
+fn declare_auxiliary(
     alloc: Global,
     scope: &mut Scope,
-    head: Heading,
-    start: Rest<'a>,
-) -> Parsed<'a, Ghost>
-    requires limit { head.count ≤ most What1.Ghosts }
+    count: usize,
+    at: u32,
+    form: &Auxiliary,
+) -> Placed<Ghost>
+    requires limit { count ≤ most What1.Ghosts }
     requires room { HasRoom scope.old ghost_names }
-    requires name { start.at ≡ head.at + 2 }
-    ensures limit { IfOk result (λ _. head.entry.count < most What1.Ghosts) }
-    ensures read { Gives (λ r. read_in r.0 scope.new r.1) result
-        (ghost_in scope.old head.entry.count head.entry.at head.entry.name.now (kinds_left start.entry)) }
-    ensures declares { IfOk result (λ r. AddsNamesWithin scope.old scope.new (most What1.Values + 1) start.entry r.1) }
+    requires place { at + ghost_size (auxiliary_tree form.now) < 2 ^ 32 }
+    ensures limit { IfOk result (λ _. count < most What1.Ghosts) }
+    ensures read { Gives (λ r. (r.0, scope.new, r.1)) result
+        (ghost_means scope.old count at (auxiliary_tree form.now)) }
+    ensures place { IfOk result (λ r. r.1 ≡ at + ghost_size (auxiliary_tree form.now)) }
+    ensures declares { IfOk result (λ _. AddsNames scope.old scope.new (most What1.Values + 1)) }
 {
-    if head.count == What1::Ghosts.most() as usize {
+    if count == What1::Ghosts.most() as usize {
         return Err(ParseFault::past(What1::Ghosts));
     }
-    if let Some(after) = thread_at(start) {
-        let binding = Binding::Auxiliary(head.count as u16, true);
-        let name = declare(scope, head.name, head.at + 1, binding)?;
-        let values = Items::new(alloc);
-        return Ok((Ghost { name, values }, after));
-    }
-    match first_value_at(start) {
-        Some((value, after)) => read_of_values(alloc, scope, head, value, after),
-        None => Err(ParseFault::Syntax { at: head.at }),
+    match &form.kind {
+        AuxiliaryKind::OfThreads => {
+            let binding = Binding::Auxiliary(count as u16, true);
+            let name = declare(scope, form.name, at + 1, binding)?;
+            let values = Items::new(alloc);
+            Ok((Ghost { name, values }, at + 4))
+        }
+        AuxiliaryKind::OneOf(first, others) => {
+            let head = AuxiliaryName {
+                count,
+                at,
+                name: form.name,
+            };
+            declare_of_values(alloc, scope, head, *first, others.as_slice())
+        }
     }
 }
 
-/// The auxiliary fields.
-struct AuxiliaryFields;
-
-impl Listed for AuxiliaryFields {
-    ghost use Rattle.plc_parse.specs.Kinds.{auxiliary_fields};
-
+impl<'a> Listed for Auxiliary<'a> {
     type Item = Ghost;
 
     ghost kind = { auxiliary_fields };
 
-    fn next<'a>(
-        alloc: Global,
-        scope: &mut Scope,
-        count: usize,
-        start: Rest<'a>,
-    ) -> Turn<'a, Ghost> {
-        let Some((name, after)) = ghost_at(start) else {
-            return Ok(None);
-        };
-        let head = Heading {
-            count,
-            at: start.at,
-            name,
-        };
-        let (item, end) = read_ghost(alloc, scope, head, after)?;
-        Ok(Some((item, end)))
+    fn declare(&self, alloc: Global, scope: &mut Scope, count: usize, at: u32) -> Placed<Ghost> {
+        declare_auxiliary(alloc, scope, count, at, self)
     }
-}
-
-/// Declares the auxiliary fields and their values.
-pub fn read_ghosts<'a>(
-    alloc: Global,
-    scope: &mut Scope,
-    start: Rest<'a>,
-) -> Parsed<'a, Items<Ghost>>
-    requires { HasRoom scope.old (ghost_names * (most What1.Ghosts + 1)) }
-    ensures read { Gives (λ r. read_in r.0 scope.new r.1) result
-        (ghosts_in scope.old start.entry.at (kinds_left start.entry)) }
-    ensures declares { IfOk result (λ r.
-        AddsNamesWithin scope.old scope.new (ghost_names * most What1.Ghosts) start.entry r.1) }
-{
-    read_listed::<AuxiliaryFields>(alloc, scope, start)
 }

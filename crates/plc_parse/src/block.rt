@@ -1,177 +1,201 @@
-// Blocks, and the statements that hold blocks. A block is read from after its opening brace up to its
-// closing one. Each statement takes a token, so fewer statements stand after and within one another
-// than there are tokens: `most` is that number, which ends the recursion. Blocks are nested 64 deep at
-// most, since the syntax was judged before.
-ghost use Rattle.std.specs.Prelude.{length};
-ghost use Rattle.plc_lang.specs.Views.{statement_of, blocks_of};
-ghost use Rattle.plc_parse.specs.Growth.{CanReadBlock};
-ghost use Rattle.plc_parse.specs.Reading.{loop_in, else_in, branches_in, if_in, blocks_in};
-ghost use Rattle.plc_parse.specs.Reading.{choose_in, statement_in};
-ghost use Rattle.plc_parse.specs.Views.{ReadsHere};
+// Statements and the blocks in them, each with the place after it. How deep blocks stand within one another was judged
+// before, so the recursion is 65 deep at most.
+ghost use Rattle.std.specs.Prelude.{◌+◌, ◌<◌};
+ghost use Rattle.plc_lang.specs.Views.{blocks_of};
+ghost use Rattle.plc_syntax.specs.Sizes.{condition_size};
+ghost use Rattle.plc_syntax.specs.Views.{condition_tree};
+ghost use Rattle.plc_syntax.specs.Trees.{IfStatement, ChooseStatement, LoopStatement};
+ghost use Rattle.plc_tree.specs.Views.{else_tree, ors_tree, statement_tree};
+ghost use Rattle.plc_parse.specs.Meaning.{statements_mean, else_means};
+ghost use Rattle.plc_parse.specs.Sizes.{statement_size, statements_size, else_size, ors_size};
+ghost use Rattle.plc_parse.specs.Units.{lines_of};
+ghost use Rattle.plc_parse.specs.Views.{CanMean, MeansHere, MeansStatement, choices_mean};
 
 use crate::lines::line_at;
-use crate::statement::read_flat;
-use plc_forms::{Rest, closing_at, condition_at, opening_at, word_symbol_at};
+use crate::placed::Placed;
+use crate::sizes::condition_size;
+use crate::statement::{atomic, break_statement, call_statement, label, primitive_statement};
 use plc_lang::{Block, Line, Stmt};
-use plc_lex::{Keyword, Symbol, Token};
-use plc_outparse::Parsed;
-use plc_scope::{ParseFault, Scope, condition};
+use plc_lex::Token;
+use plc_scope::{Scope, condition};
+use plc_syntax::{Call, Condition};
+use plc_tree::{Block as BlockForm, Stmt as StmtForm};
 use std::alloc::Global;
 
-/// What blocks are read with.
+/// What stands around statements.
 #[derive(Clone, Copy)]
 pub struct Context<'a> {
+    /// Where lists of statements are allocated.
     pub alloc: Global,
     /// All tokens of the file, whose lines are those of the statements.
     pub tokens: &'a [Token],
-    /// At most so many statements stand after and within one another.
-    pub most: usize,
+    /// Whether a loop stands around, so that `break` may stand here.
     pub in_loop: bool,
 }
 
-/// A loop, from after its brace.
+/// A loop, and the place after it.
 #[cycle(block)]
-#[tactic(auto, unfolding(crate::specs::Reading::loop_in))]
-fn read_loop<'a>(context: Context, scope: &mut Scope, start: Rest<'a>) -> Parsed<'a, Stmt>
-    requires { CanReadBlock (length context.tokens.now) scope.old start }
-    ensures { ReadsHere statement_of (λ block _ s _. loop_in block s) context.entry scope.old scope.new start.entry
-        result }
+fn loop_statement(context: Context, scope: &mut Scope, at: u32, block: &BlockForm) -> Placed<Stmt>
+    requires { CanMean scope.old at (statement_size (LoopStatement block.now)) }
+    ensures { MeansStatement (lines_of context.entry.tokens.now) context.entry.in_loop
+        (LoopStatement block.now) scope.old scope.new at result }
 {
     let body = Context {
         in_loop: true,
         ..context
     };
-    let (body, rest) = read_block(body, scope, start)?;
-    Ok((Stmt::Loop(body), rest))
+    let (body, after) = statements(body, scope, at + 2, block)?;
+    Ok((Stmt::Loop(body), after + 1))
 }
 
-/// The second block of an `if`, which is empty where it is left out.
+/// The second block of an `if`, which is empty where it is left out; and the place after it.
 #[cycle(block)]
-#[tactic(auto, unfolding(crate::specs::Reading::else_in))]
-fn read_else<'a>(context: Context, scope: &mut Scope, start: Rest<'a>) -> Parsed<'a, Block>
-    requires { CanReadBlock (length context.tokens.now) scope.old start }
-    ensures { ReadsHere (λ b. b) (λ block _. else_in block) context.entry scope.old scope.new start.entry result }
+fn else_block(
+    context: Context,
+    scope: &mut Scope,
+    at: u32,
+    block: &Option<BlockForm>,
+) -> Placed<Block>
+    requires { CanMean scope.old at (else_size (else_tree block.now)) }
+    ensures { MeansHere (λ b. b)
+        (else_means (lines_of context.entry.tokens.now) scope.old context.entry.in_loop at (else_tree block.now))
+        scope.old scope.new at (else_size (else_tree block.now)) result }
 {
-    match word_symbol_at(start, Keyword::Else, Symbol::OpenBrace) {
-        Some(after) => read_block(context, scope, after),
-        None => Ok((Block::new(Vec::new(context.alloc)), start)),
+    match block {
+        None => Ok((Block::new(Vec::new(context.alloc)), at)),
+        Some(block) => {
+            let (block, after) = statements(context, scope, at + 2, block)?;
+            Ok((block, after + 1))
+        }
     }
 }
 
-/// The two blocks of an `if`, from after the first one's brace.
+/// An `if`, and the place after it.
 #[cycle(block)]
-#[tactic(auto, unfolding(crate::specs::Reading::branches_in))]
-fn read_branches<'a>(
+fn if_statement(
     context: Context,
     scope: &mut Scope,
-    start: Rest<'a>,
-) -> Parsed<'a, (Block, Block)>
-    requires { CanReadBlock (length context.tokens.now) scope.old start }
-    ensures { ReadsHere (λ both. both) (λ block _. branches_in block) context.entry scope.old scope.new start.entry
-        result }
+    at: u32,
+    form: Condition,
+    yes: &BlockForm,
+    no: &Option<BlockForm>,
+) -> Placed<Stmt>
+    requires { CanMean scope.old at (statement_size (IfStatement (condition_tree form) yes.now (else_tree no.now))) }
+    ensures { MeansStatement (lines_of context.entry.tokens.now) context.entry.in_loop
+        (IfStatement (condition_tree form.entry) yes.now (else_tree no.now)) scope.old scope.new at result }
 {
-    let (yes, rest) = read_block(context, scope, start)?;
-    let (no, rest) = read_else(context, scope, rest)?;
-    Ok(((yes, no), rest))
+    let cond = condition(scope, at + 2, form)?;
+    let (yes, after) = statements(context, scope, at + 2 + condition_size(form) + 2, yes)?;
+    let (no, after) = else_block(context, scope, after + 1, no)?;
+    Ok((Stmt::If { cond, yes, no }, after))
 }
 
-/// An `if`, from after its parenthesis.
+/// The blocks of a choice: the first two, whose meaning is known, and those after them, from a place on; and the
+/// place after the last one.
 #[cycle(block)]
-#[tactic(auto, unfolding(crate::specs::Reading::if_in))]
-fn read_if<'a>(context: Context, scope: &mut Scope, start: Rest<'a>) -> Parsed<'a, Stmt>
-    requires { CanReadBlock (length context.tokens.now) scope.old start }
-    ensures { ReadsHere statement_of (λ block _. if_in block) context.entry scope.old scope.new start.entry result }
-{
-    let Some((form, rest)) = condition_at(start) else {
-        return Err(ParseFault::Syntax { at: start.at });
-    };
-    let cond = condition(scope, start.at, form)?;
-    let Some(rest) = opening_at(rest) else {
-        return Err(ParseFault::Syntax { at: rest.at });
-    };
-    let ((yes, no), rest) = read_branches(context, scope, rest)?;
-    Ok((Stmt::If { cond, yes, no }, rest))
-}
-
-/// The blocks of a choice, from after the first one.
-#[cycle(block)]
-#[tactic(auto, unfolding(crate::specs::Reading::blocks_in))]
-fn read_blocks<'a>(
+fn choices(
     context: Context,
     scope: &mut Scope,
     first: Block,
-    start: Rest<'a>,
-) -> Parsed<'a, Vec<Block>>
-    requires { CanReadBlock (length context.tokens.now) scope.old start }
-    ensures { ReadsHere (λ bs. blocks_of bs.items) (λ block n. blocks_in block n first) context.entry scope.old
-        scope.new start.entry result }
+    second: Block,
+    start: u32,
+    others: &[BlockForm],
+) -> Placed<Vec<Block>>
+    requires { CanMean scope.old start (ors_size (ors_tree others.now)) }
+    ensures { MeansHere (λ bs. blocks_of bs.items)
+        (choices_mean (lines_of context.entry.tokens.now) scope.old context.entry.in_loop start first second
+        (ors_tree others.now)) scope.old scope.new start (ors_size (ors_tree others.now)) result }
 {
     let mut choices = Vec::new(context.alloc);
     choices.push(first)?;
-    let mut rest = start;
-    for _ in 0..context.most {
-        let Some(after) = word_symbol_at(rest, Keyword::Or, Symbol::OpenBrace) else {
-            return Ok((choices, rest));
-        };
-        let (block, end) = read_block(context, scope, after)?;
+    choices.push(second)?;
+    let mut at = start;
+    for block in others {
+        let (block, after) = statements(context, scope, at + 2, block)?;
         choices.push(block)?;
-        rest = end;
+        at = after + 1;
     }
-    Err(ParseFault::Syntax { at: rest.at })
+    Ok((choices, at))
 }
 
-/// A choice, from after its first brace.
+/// A choice, and the place after it.
 #[cycle(block)]
-#[tactic(auto, unfolding(crate::specs::Reading::choose_in))]
-fn read_choose<'a>(context: Context, scope: &mut Scope, start: Rest<'a>) -> Parsed<'a, Stmt>
-    requires { CanReadBlock (length context.tokens.now) scope.old start }
-    ensures { ReadsHere statement_of choose_in context.entry scope.old scope.new start.entry result }
+#[tactic(auto, unfolding(crate::specs::Views::choices_mean))]
+fn choose_statement(
+    context: Context,
+    scope: &mut Scope,
+    at: u32,
+    first: &BlockForm,
+    second: &BlockForm,
+    others: &[BlockForm],
+) -> Placed<Stmt>
+    requires { CanMean scope.old at
+        (statement_size (ChooseStatement first.now second.now (ors_tree others.now))) }
+    ensures { MeansStatement (lines_of context.entry.tokens.now) context.entry.in_loop
+        (ChooseStatement first.now second.now (ors_tree others.now)) scope.old scope.new at result }
 {
-    let (first, rest) = read_block(context, scope, start)?;
-    let (blocks, rest) = read_blocks(context, scope, first, rest)?;
-    Ok((Stmt::Choose(blocks), rest))
+    let (first, after) = statements(context, scope, at + 2, first)?;
+    let (second, after) = statements(context, scope, after + 3, second)?;
+    let (blocks, after) = choices(context, scope, first, second, after + 1, others)?;
+    Ok((Stmt::Choose(blocks), after))
 }
 
-/// A statement; at most so many stand within it.
+/// A statement, and the place after it.
 #[cycle(block)]
-#[tactic(auto, unfolding(crate::specs::Reading::statement_in))]
-fn read_statement<'a>(context: Context, scope: &mut Scope, start: Rest<'a>) -> Parsed<'a, Stmt>
-    requires { CanReadBlock (length context.tokens.now) scope.old start }
-    ensures { ReadsHere statement_of statement_in context.entry scope.old scope.new start.entry result }
+fn statement(context: Context, scope: &mut Scope, at: u32, stmt: &StmtForm) -> Placed<Stmt>
+    requires { CanMean scope.old at (statement_size (statement_tree stmt.now)) }
+    ensures { MeansStatement (lines_of context.entry.tokens.now) context.entry.in_loop
+        (statement_tree stmt.now) scope.old scope.new at result }
 {
-    if let Some(after) = word_symbol_at(start, Keyword::Loop, Symbol::OpenBrace) {
-        return read_loop(context, scope, after);
-    }
-    if let Some(after) = word_symbol_at(start, Keyword::Choose, Symbol::OpenBrace) {
-        return read_choose(context, scope, after);
-    }
-    match word_symbol_at(start, Keyword::If, Symbol::OpenParen) {
-        Some(after) => read_if(context, scope, after),
-        None => read_flat(context.alloc, scope, context.in_loop, start),
+    match stmt {
+        StmtForm::Primitive(form) => primitive_statement(scope, at, *form),
+        StmtForm::Atomic(forms) => atomic(context.alloc, scope, at, forms.as_slice()),
+        StmtForm::Call {
+            name,
+            argument,
+            during,
+        } => {
+            let form = Call {
+                name: *name,
+                argument: *argument,
+            };
+            call_statement(scope, at, form, *during)
+        }
+        StmtForm::If { condition, yes, no } => if_statement(
+            context, scope, at, *condition, yes, no,
+        ),
+        StmtForm::Choose {
+            first,
+            second,
+            others,
+        } => choose_statement(context, scope, at, first, second, others.as_slice()),
+        StmtForm::Loop(block) => loop_statement(context, scope, at, block),
+        StmtForm::Break => break_statement(context.in_loop, at),
+        StmtForm::Return => Ok((Stmt::Return, at + 2)),
+        StmtForm::Label(name) => label(scope, at, *name),
     }
 }
 
-/// A block, from after its brace, in a loop or not; at most so many statements stand after and
-/// within one another.
+/// The statements of a block, from a place on, with their lines; and the place after the last one.
 #[cycle(block)]
-pub fn read_block<'a>(context: Context, scope: &mut Scope, start: Rest<'a>) -> Parsed<'a, Block>
-    requires { CanReadBlock (length context.tokens.now) scope.old start }
-    ensures { ReadsHere (λ b. b) (λ block _. block) context.entry scope.old scope.new start.entry result }
+pub fn statements(
+    context: Context,
+    scope: &mut Scope,
+    start: u32,
+    block: &BlockForm,
+) -> Placed<Block>
+    requires { CanMean scope.old start (statements_size block.now) }
+    ensures { MeansHere (λ b. b)
+        (statements_mean (lines_of context.entry.tokens.now) scope.old context.entry.in_loop start block.now)
+        scope.old scope.new start (statements_size block.now) result }
 {
     let mut lines = Vec::new(context.alloc);
-    let mut rest = start;
-    for i in 0..context.most {
-        if let Some(after) = closing_at(rest) {
-            return Ok((Block::new(lines), after));
-        }
-        let line = line_at(context.tokens, rest.at);
-        let inner = Context {
-            most: context.most - 1 - i,
-            ..context
-        };
-        let (stmt, end) = read_statement(inner, scope, rest)?;
+    let mut at = start;
+    for stmt in block.stmts() {
+        let line = line_at(context.tokens, at);
+        let (stmt, after) = statement(context, scope, at, stmt)?;
         lines.push(Line { line, stmt })?;
-        rest = end;
+        at = after;
     }
-    Err(ParseFault::Syntax { at: rest.at })
+    Ok((Block::new(lines), at))
 }

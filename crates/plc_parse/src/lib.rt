@@ -1,18 +1,21 @@
-//! From tokens to the unit that they spell, on `plc_syntax`'s trees, over which the meaning is defined;
-//! the layer above uses that `parse` answers the one unit that the tokens spell, or their fault at the
-//! least token.
+//! From tokens to the unit that they spell: the meaning is defined on the grammar's trees of `plc_syntax`, and
+//! worked out on `plc_tree`'s, which are their form in memory; the layer above uses that `parse` answers the one
+//! unit that the tokens spell, or their fault at the least token.
 #![tactic(auto)]
 
 mod auxiliary;
+mod auxiliary_name;
 mod block;
 mod declaration;
-mod heading;
+mod file;
 mod lines;
 mod lists;
 mod local;
 mod marks;
 mod operation;
+mod placed;
 mod reading;
+mod sizes;
 mod statement;
 mod step;
 mod unit;

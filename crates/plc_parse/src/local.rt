@@ -1,18 +1,22 @@
 // The parameters and locals of an operation. A parameter is its name alone; a local is a declaration.
-ghost use Rattle.std.specs.Prelude.{◌≡◌, ◌+◌, ◌<◌, ◌^◌, IfOk};
-ghost use Rattle.plc_forms.specs.Views.{field_tree};
+ghost use Rattle.std.specs.Prelude.{◌≡◌, ◌+◌, ◌*◌, ◌<◌, ◌^◌, IfOk, length, map};
+ghost use Rattle.std.specs.List.{sum_by};
+ghost use Rattle.plc_syntax.specs.Views.{text_of, field_tree};
+ghost use Rattle.plc_tree.specs.FileViews.{parameters_names};
 ghost use Rattle.plc_scope.specs.Answers.{Gives, HasRoomForLocals, GrowsByLocals};
 ghost use Rattle.plc_scope.specs.Scope.{declared_parameter, declared_local};
-ghost use Rattle.plc_parse.specs.Meaning.{local_means};
-ghost use Rattle.plc_parse.specs.Reading.{others_in, parameters_in, locals_in, all_locals_in};
-ghost use Rattle.plc_parse.specs.Growth.{AddsLocals, ReadsLocals};
+ghost use Rattle.plc_parse.specs.Growth.{AddsLocals};
+ghost use Rattle.plc_parse.specs.Meaning.{local_means, others_mean, parameters_mean, locals_mean};
+ghost use Rattle.plc_parse.specs.Sizes.{field_size, parameters_size};
+ghost use Rattle.plc_parse.specs.Views.{DeclaresLocals};
 
-use plc_forms::{Declaration, Rest, comma_name_at, declaration_at, name_at, opening_at};
-use plc_scope::{ParseFault, Scope};
+use plc_scope::{Meaning, Scope};
+use plc_syntax::Declaration;
+use plc_tree::Parameters;
 
 /// Declares one parameter.
 #[tactic(auto, using(crate::proofs::Growth::parameter_labels))]
-fn declare_parameter(scope: &mut Scope, name: &[u8], at: u32) -> Result<(), ParseFault>
+fn declare_parameter(scope: &mut Scope, name: &[u8], at: u32) -> Meaning<()>
     requires { HasRoomForLocals scope.old }
     ensures read { Gives (λ _. scope.new) result (declared_parameter scope.old name.now at) }
     ensures names { IfOk result (λ _. GrowsByLocals scope.old scope.new) }
@@ -21,36 +25,40 @@ fn declare_parameter(scope: &mut Scope, name: &[u8], at: u32) -> Result<(), Pars
     scope.declare_parameter(name, at)
 }
 
-/// The parameters after the first.
-fn read_others<'a>(scope: &mut Scope, start: Rest<'a>) -> Result<Rest<'a>, ParseFault>
-    requires { HasRoomForLocals scope.old }
-    ensures { ReadsLocals others_in scope.old scope.new start.entry result }
+/// The parameters after the first, from a place on; and the place after the last one.
+fn declare_others(scope: &mut Scope, start: u32, names: &[&[u8]]) -> Meaning<u32>
+    requires room { HasRoomForLocals scope.old }
+    requires place { start + 2 * length (map text_of names.now) < 2 ^ 32 }
+    ensures { DeclaresLocals (others_mean scope.old start (map text_of names.now)) scope.old scope.new start
+        (2 * length (map text_of names.now)) result }
 {
-    let mut rest = start;
-    while let Some((name, after)) = comma_name_at(rest) {
-        declare_parameter(scope, name, rest.at + 1)?;
-        rest = after;
+    let mut at = start;
+    for name in names {
+        declare_parameter(scope, *name, at + 1)?;
+        at += 2;
     }
-    Ok(rest)
+    Ok(at)
 }
 
-/// The parameters, of which there may be none.
-fn read_parameters<'a>(scope: &mut Scope, start: Rest<'a>) -> Result<Rest<'a>, ParseFault>
-    requires { HasRoomForLocals scope.old }
-    ensures { ReadsLocals parameters_in scope.old scope.new start.entry result }
+/// The parameters, of which there may be none; and the place after the last one.
+pub fn declare_parameters(scope: &mut Scope, at: u32, parameters: &Parameters) -> Meaning<u32>
+    requires room { HasRoomForLocals scope.old }
+    requires place { at + parameters_size (parameters_names parameters.now) < 2 ^ 32 }
+    ensures { DeclaresLocals (parameters_mean scope.old at (parameters_names parameters.now)) scope.old scope.new at
+        (parameters_size (parameters_names parameters.now)) result }
 {
-    match name_at(start) {
-        None => Ok(start),
-        Some((name, after)) => {
-            declare_parameter(scope, name, start.at)?;
-            read_others(scope, after)
+    match parameters {
+        Parameters::None => Ok(at),
+        Parameters::Some(name, others) => {
+            declare_parameter(scope, *name, at)?;
+            declare_others(scope, at + 1, others.as_slice())
         }
     }
 }
 
 /// Declares one local that is no parameter.
 #[tactic(auto, using(crate::proofs::Growth::local_labels))]
-fn declare_name(scope: &mut Scope, name: &[u8], at: u32, pointer: bool) -> Result<(), ParseFault>
+fn declare_name(scope: &mut Scope, name: &[u8], at: u32, pointer: bool) -> Meaning<()>
     requires { HasRoomForLocals scope.old }
     ensures read { Gives (λ _. scope.new) result (declared_local scope.old name.now at pointer) }
     ensures names { IfOk result (λ _. GrowsByLocals scope.old scope.new) }
@@ -60,7 +68,7 @@ fn declare_name(scope: &mut Scope, name: &[u8], at: u32, pointer: bool) -> Resul
 }
 
 /// Declares the local of a declaration, which stands at the place.
-fn declare_local(scope: &mut Scope, at: u32, declaration: Declaration) -> Result<(), ParseFault>
+fn declare_local(scope: &mut Scope, at: u32, declaration: Declaration) -> Meaning<()>
     requires room { HasRoomForLocals scope.old }
     requires place { at + 1 < 2 ^ 32 }
     ensures read { Gives (λ _. scope.new) result (local_means scope.old at (field_tree declaration.entry)) }
@@ -72,28 +80,17 @@ fn declare_local(scope: &mut Scope, at: u32, declaration: Declaration) -> Result
     }
 }
 
-/// The declarations of locals.
-fn read_locals<'a>(scope: &mut Scope, start: Rest<'a>) -> Result<Rest<'a>, ParseFault>
-    requires { HasRoomForLocals scope.old }
-    ensures { ReadsLocals locals_in scope.old scope.new start.entry result }
+/// The locals that are no parameters, from a place on; and the place after the last one.
+pub fn declare_locals(scope: &mut Scope, start: u32, locals: &[Declaration]) -> Meaning<u32>
+    requires room { HasRoomForLocals scope.old }
+    requires place { start + sum_by field_size (map field_tree locals.now) < 2 ^ 32 }
+    ensures { DeclaresLocals (locals_mean scope.old start (map field_tree locals.now)) scope.old scope.new start
+        (sum_by field_size (map field_tree locals.now)) result }
 {
-    let mut rest = start;
-    while let Some((declaration, after)) = declaration_at(rest) {
-        declare_local(scope, rest.at, declaration)?;
-        rest = after;
+    let mut at = start;
+    for local in locals {
+        declare_local(scope, at, *local)?;
+        at += 3;
     }
-    Ok(rest)
-}
-
-/// Declares the parameters of an operation, and its locals after `)` and `{`.
-#[tactic(auto, unfolding(crate::specs::Reading::all_locals_in))]
-pub fn read_all_locals<'a>(scope: &mut Scope, start: Rest<'a>) -> Result<Rest<'a>, ParseFault>
-    requires { HasRoomForLocals scope.old }
-    ensures { ReadsLocals all_locals_in scope.old scope.new start.entry result }
-{
-    let rest = read_parameters(scope, start)?;
-    match opening_at(rest) {
-        Some(after) => read_locals(scope, after),
-        None => Err(ParseFault::Syntax { at: rest.at }),
-    }
+    Ok(at)
 }

@@ -1,122 +1,93 @@
 // The operations: each is its name, its parameters, its locals and a block.
-ghost use Rattle.std.specs.Prelude.{◌≡◌, ◌+◌, ◌*◌, ◌<◌, ◌≤◌, [], length, IfOk};
+ghost use Rattle.std.specs.Prelude.{◌≡◌, ◌+◌, ◌*◌, ◌<◌, ◌≤◌, ◌^◌, [], length, IfOk, map};
+ghost use Rattle.std.specs.List.{sum_by};
 ghost use Rattle.plc_base.specs.Limits.{most};
-ghost use Rattle.plc_scope.specs.Answers.{Gives, HasRoom};
 ghost use Rattle.plc_scope.specs.Scope.{most_locals};
+ghost use Rattle.plc_tree.specs.FileViews.{operation_tree};
 ghost use Rattle.plc_outparse.specs.Answers.{OpsFit};
-ghost use Rattle.plc_parse.specs.Growth.{IsLeftOf, CanOperate, GrowsByOps, op_names, most_labels};
-ghost use Rattle.plc_parse.specs.Reading.{added, op_in, ops_in};
+ghost use Rattle.plc_scope.specs.Answers.{Gives, HasRoom};
+ghost use Rattle.plc_parse.specs.Growth.{CanOperate, GrowsByOps, op_names, most_labels};
+ghost use Rattle.plc_parse.specs.Meaning.{op_means, listed};
+ghost use Rattle.plc_parse.specs.Sizes.{op_size};
 ghost use Rattle.plc_parse.specs.Units.{lines_of};
-ghost use Rattle.plc_outparse.specs.Views.{kinds_left};
-ghost use Rattle.plc_parse.specs.Views.{read_in};
 
-use crate::block::{Context, read_block};
+use crate::block::{Context, statements};
 use crate::declaration::declare;
-use crate::heading::Heading;
 use crate::lines::line_at;
-use crate::local::read_all_locals;
+use crate::local::{declare_locals, declare_parameters};
+use crate::placed::Placed;
 use plc_base::{Items, What1};
-use plc_forms::{Rest, head_at};
 use plc_lang::Op;
 use plc_lex::Token;
-use plc_outparse::Parsed;
 use plc_scope::{Binding, ParseFault, Scope};
+use plc_tree::Operation;
 use std::alloc::Global;
 
-/// An operation, from after its name and `(`.
-#[tactic(auto, unfolding(crate::specs::Reading::op_in))]
-fn read_op<'a>(
+/// An operation with so many before it, and the place after it.
+#[tactic(auto, unfolding(crate::specs::Meaning::op_means))]
+fn operation(
     alloc: Global,
     scope: &mut Scope,
     tokens: &[Token],
-    head: Heading,
-    start: Rest<'a>,
-) -> Parsed<'a, Op>
-    requires limit { head.count ≤ most What1.Ops }
+    count: usize,
+    at: u32,
+    form: &Operation,
+) -> Placed<Op>
+    requires limit { count ≤ most What1.Ops }
     requires room { CanOperate scope.old }
-    requires place { IsLeftOf (length tokens.now) start }
-    requires head { start.at ≡ head.at + 3 }
-    ensures limit { IfOk result (λ _. head.entry.count < most What1.Ops) }
-    ensures read { Gives (λ r. read_in r.0 scope.new r.1) result
-        (op_in (lines_of tokens.now) scope.old head.entry.count head.entry.at head.entry.name.now
-        (kinds_left start.entry)) }
+    requires place { at + op_size (operation_tree form.now) < 2 ^ 32 }
+    ensures limit { IfOk result (λ _. count < most What1.Ops) }
+    ensures read { Gives (λ r. (r.0, scope.new, r.1)) result
+        (op_means (lines_of tokens.now) scope.old count at (operation_tree form.now)) }
     ensures grows { IfOk result (λ _. GrowsByOps scope.old scope.new op_names) }
     ensures locals { IfOk result (λ r. length r.0.locals ≤ most_locals) }
-    ensures place { IfOk result (λ r. IsLeftOf (length tokens.now) r.1) }
+    ensures place { IfOk result (λ r. r.1 ≡ at + op_size (operation_tree form.now)) }
 {
-    if head.count == What1::Ops.most() as usize {
+    if count == What1::Ops.most() as usize {
         return Err(ParseFault::past(What1::Ops));
     }
-    let number = declare(scope, head.name, head.at + 1, Binding::Taken)?;
-    let rest = read_all_locals(scope, start)?;
+    let name = declare(scope, form.name, at + 1, Binding::Taken)?;
+    let after = declare_parameters(scope, at + 3, &form.parameters)?;
+    let after = declare_locals(scope, after + 2, form.locals.as_slice())?;
     let context = Context {
         alloc,
         tokens,
-        most: rest.tokens.len(),
         in_loop: false,
     };
-    let (body, rest) = read_block(context, scope, rest)?;
+    let (body, after) = statements(context, scope, after, &form.body)?;
     let op = Op {
-        name: number,
+        name,
         locals: scope.take_locals(alloc),
         body,
-        line: line_at(tokens, head.at),
+        line: line_at(tokens, at),
     };
-    Ok((op, rest))
+    Ok((op, after + 1))
 }
 
-/// An operation, from after its name and `(`, added to those before.
-fn read_next<'a>(
+/// The operations, from a place on; and the place after the last one.
+pub fn operations(
     alloc: Global,
     scope: &mut Scope,
     tokens: &[Token],
-    ops: &mut Items<Op>,
-    head: Heading,
-    start: Rest<'a>,
-) -> Result<Rest<'a>, ParseFault>
-    requires fit { OpsFit ops.old }
-    requires count { head.count ≡ length ops.old }
-    requires room { CanOperate scope.old }
-    requires place { IsLeftOf (length tokens.now) start }
-    requires head { start.at ≡ head.at + 3 }
-    ensures read { Gives (read_in ops.new scope.new) result (added ops.old
-        (op_in (lines_of tokens.now) scope.old (length ops.old) head.entry.at head.entry.name.now
-        (kinds_left start.entry))) }
-    ensures fit { IfOk result (λ _. OpsFit ops.new) }
-    ensures one { IfOk result (λ _. length ops.new ≡ length ops.old + 1) }
-    ensures grows { IfOk result (λ _. GrowsByOps scope.old scope.new op_names) }
-    ensures place { IfOk result (λ r. IsLeftOf (length tokens.now) r) }
-{
-    let (op, end) = read_op(alloc, scope, tokens, head, start)?;
-    ops.push(op)?;
-    Ok(end)
-}
-
-/// Reads the operations.
-pub fn read_ops<'a>(
-    alloc: Global,
-    scope: &mut Scope,
-    tokens: &[Token],
-    start: Rest<'a>,
-) -> Parsed<'a, Items<Op>>
+    start: u32,
+    forms: &[Operation],
+) -> Placed<Items<Op>>
     requires room { HasRoom scope.old (op_names * (most What1.Ops + 1) + most_labels + 1) }
     requires locals { scope.old.locals ≡ [] }
     requires labels { scope.old.labels ≡ [] }
-    requires place { IsLeftOf (length tokens.now) start }
-    ensures read { Gives (λ r. read_in r.0 scope.new r.1) result
-        (ops_in (lines_of tokens.now) scope.old start.entry.at (kinds_left start.entry)) }
+    requires place { start + sum_by op_size (map operation_tree forms.now) < 2 ^ 32 }
+    ensures read { Gives (λ r. (r.0, scope.new, r.1)) result
+        (listed (op_means (lines_of tokens.now)) scope.old 0 start (map operation_tree forms.now)) }
     ensures fit { IfOk result (λ r. OpsFit r.0) }
     ensures labels { IfOk result (λ _. length scope.new.labels ≤ most_labels) }
+    ensures place { IfOk result (λ r. r.1 ≡ start + sum_by op_size (map operation_tree forms.now)) }
 {
     let mut ops = Items::new(alloc);
-    let mut rest = start;
-    while let Some((name, after)) = head_at(rest) {
-        let head = Heading {
-            count: ops.len(),
-            at: rest.at,
-            name,
-        };
-        rest = read_next(alloc, scope, tokens, &mut ops, head, after)?;
+    let mut at = start;
+    for form in forms {
+        let (op, after) = operation(alloc, scope, tokens, ops.len(), at, form)?;
+        ops.push(op)?;
+        at = after;
     }
-    Ok((ops, rest))
+    Ok((ops, at))
 }

@@ -1,26 +1,24 @@
-// Statements without blocks of statements. Each is read by its first tokens, and judged at once.
-ghost use Rattle.std.specs.Prelude.{◌≡◌, ◌+◌, ◌<◌, ◌≤◌, ◌^◌, Option, IfOk, length};
+// Statements that hold no block of statements.
+ghost use Rattle.std.specs.Prelude.{◌+◌, ◌<◌, ◌^◌, ℕ, Bool, List, IfOk, map};
 ghost use Rattle.plc_lang.specs.Views.{statement_of};
-ghost use Rattle.plc_forms.specs.Sizes.{call_size, during_size, primitive_size};
-ghost use Rattle.plc_forms.specs.Views.{text_or_none, argument_tree, primitive_tree};
-ghost use Rattle.plc_scope.specs.Answers.{Gives, Within};
-ghost use Rattle.plc_scope.specs.Scope.{most_locals};
-ghost use Rattle.plc_parse.specs.Growth.{AddsLabelsWithin, CanLabel, GrowsByLabels};
-ghost use Rattle.plc_parse.specs.Meaning.{label_means, during_means};
-ghost use Rattle.plc_parse.specs.Reading.{break_in, label_in, atomic_in, called_in, primitive_in, step_in, flat_in};
-ghost use Rattle.plc_outparse.specs.Views.{kinds_left};
-ghost use Rattle.plc_parse.specs.Views.{read_in};
+ghost use Rattle.plc_syntax.specs.Sizes.{call_size, during_size, primitive_size};
+ghost use Rattle.plc_syntax.specs.Views.{text_or_none, argument_tree, primitive_tree};
+ghost use Rattle.plc_scope.specs.declared.scope.Scope.{Scope};
+ghost use Rattle.plc_scope.specs.Answers.{Gives};
+ghost use Rattle.plc_syntax.specs.Trees.{PrimitiveStatement, AtomicStatement, CallStatement, BreakStatement};
+ghost use Rattle.plc_syntax.specs.Trees.{LabelStatement};
+ghost use Rattle.plc_parse.specs.Growth.{CanLabel, GrowsByLabels};
+ghost use Rattle.plc_parse.specs.Meaning.{label_means, during_means, statement_means};
+ghost use Rattle.plc_parse.specs.Sizes.{primitives_size};
+ghost use Rattle.plc_parse.specs.Views.{MeansHere};
 
-use crate::step::{AtomicForms, read_forms};
+use crate::placed::Placed;
+use crate::sizes::{call_size, during_size, primitive_size};
+use crate::step::step_of;
 use plc_base::What1;
-use plc_forms::{
-    Call, Primitive, Rest, call_at, during_at, label_at, primitive_line_at, semicolon_at,
-    word_symbol_at,
-};
 use plc_lang::Stmt;
-use plc_lex::{Keyword, Symbol};
-use plc_outparse::Parsed;
 use plc_scope::{ParseFault, Scope, call, primitive};
+use plc_syntax::{Call, Primitive};
 use std::alloc::Global;
 
 /// Declares a label after the word at a place, and answers its number.
@@ -59,125 +57,75 @@ fn declare_during(
     }
 }
 
-/// A label, from after its semicolon.
-fn read_label<'a>(scope: &mut Scope, at: u32, name: &[u8], start: Rest<'a>) -> Parsed<'a, Stmt>
+/// A label, and the place after it.
+pub fn label(scope: &mut Scope, at: u32, name: &[u8]) -> Placed<Stmt>
     requires room { CanLabel scope.old }
-    requires word { start.at ≡ at + 3 }
-    ensures read { Gives (λ r. read_in (statement_of r.0) scope.new r.1) result
-        (label_in scope.old at name.now (kinds_left start.entry)) }
-    ensures labels { IfOk result (λ r. AddsLabelsWithin scope.old scope.new start.entry r.1) }
+    requires place { at + 3 < 2 ^ 32 }
+    ensures { (lines : List ℕ) (in_loop : Bool) → MeansHere statement_of
+        (statement_means lines scope.old in_loop at (LabelStatement name.now)) scope.old scope.new at 3 result }
 {
     let number = declare_label(scope, at, name)?;
-    Ok((Stmt::Label(number), start))
+    Ok((Stmt::Label(number), at + 3))
 }
 
-/// A `break`, which stands at the place and must be in a loop.
-fn read_break<'a>(in_loop: bool, at: u32, start: Rest<'a>) -> Parsed<'a, Stmt>
-    requires word { start.at ≡ at + 2 }
-    ensures read { (s : Scope) → Gives (λ r. read_in (statement_of r.0) s r.1) result
-        (break_in s in_loop at (kinds_left start.entry)) }
-    ensures place { IfOk result (λ r. Within start.entry r.1) }
+/// A `break`, which must be in a loop, and the place after it.
+pub fn break_statement(in_loop: bool, at: u32) -> Placed<Stmt>
+    requires { at + 2 < 2 ^ 32 }
+    ensures { (lines : List ℕ) (s : Scope) → CanLabel s → MeansHere statement_of
+        (statement_means lines s in_loop at BreakStatement) s s at 2 result }
 {
     if in_loop {
-        Ok((Stmt::Break, start))
+        Ok((Stmt::Break, at + 2))
     } else {
         Err(ParseFault::Undeclared { at })
     }
 }
 
-/// An atomic block, from after its brace.
-#[tactic(auto, using(plc_forms::proofs::Shrinks::primitive_line_shrinks), unfolding(crate::specs::Reading::primitives_in))]
-fn read_atomic<'a>(alloc: Global, scope: &Scope, at: u32, start: Rest<'a>) -> Parsed<'a, Stmt>
-    requires locals { length scope.now.locals ≤ most_locals }
-    requires word { start.at ≡ at + 2 }
-    ensures read { Gives (λ r. read_in (statement_of r.0) scope.now r.1) result
-        (atomic_in scope.now at (kinds_left start.entry)) }
-    ensures place { IfOk result (λ r. Within start.entry r.1) }
+/// An atomic block, and the place after it.
+pub fn atomic(alloc: Global, scope: &Scope, at: u32, forms: &[Primitive]) -> Placed<Stmt>
+    requires room { CanLabel scope.now }
+    requires place { at + (3 + primitives_size (map primitive_tree forms.now)) < 2 ^ 32 }
+    ensures { (lines : List ℕ) (in_loop : Bool) → MeansHere statement_of
+        (statement_means lines scope.now in_loop at (AtomicStatement (map primitive_tree forms.now)))
+        scope.now scope.now at (3 + primitives_size (map primitive_tree forms.now)) result }
 {
-    let (primitives, rest) = read_forms::<AtomicForms>(alloc, scope, start)?;
-    Ok((Stmt::Atomic(primitives), rest))
+    let (primitives, after) = step_of(alloc, scope, at + 2, forms)?;
+    Ok((Stmt::Atomic(primitives), after + 1))
 }
 
-/// A call, from after its closing parenthesis.
-#[tactic(auto, unfolding(crate::specs::Reading::called_in))]
-fn read_call<'a>(scope: &mut Scope, at: u32, form: Call, start: Rest<'a>) -> Parsed<'a, Stmt>
+/// A call, and the place after it.
+pub fn call_statement(scope: &mut Scope, at: u32, form: Call, during: Option<&[u8]>) -> Placed<Stmt>
     requires room { CanLabel scope.old }
-    requires name { start.at ≡ at + call_size (argument_tree form.argument) }
-    ensures read { Gives (λ r. read_in (statement_of r.0) scope.new r.1) result
-        (called_in scope.old at form.entry.name.now (argument_tree form.entry.argument)
-        (kinds_left start.entry)) }
-    ensures labels { IfOk result (λ r. AddsLabelsWithin scope.old scope.new start.entry r.1) }
+    requires place { at + call_size (argument_tree form.argument) + during_size (text_or_none during) + 1 < 2 ^ 32 }
+    ensures { (lines : List ℕ) (in_loop : Bool) → MeansHere statement_of
+        (statement_means lines scope.old in_loop at
+        (CallStatement form.entry.name.now (argument_tree form.entry.argument) (text_or_none during.entry)))
+        scope.old scope.new at
+        (call_size (argument_tree form.entry.argument) + during_size (text_or_none during.entry) + 1) result }
 {
     let called = call(scope, at, form)?;
-    let (name, rest) = during_at(start);
-    let during = declare_during(scope, start.at, name)?;
-    let Some(rest) = semicolon_at(rest) else {
-        return Err(ParseFault::Syntax { at: rest.at });
-    };
+    let word = at + call_size(form.argument);
+    let label = declare_during(scope, word, during)?;
     let stmt = Stmt::Call {
         func: called.func,
         arg: called.arg,
         active: called.active,
-        during,
+        during: label,
     };
-    Ok((stmt, rest))
+    Ok((stmt, word + during_size(during) + 1))
 }
 
-/// One primitive, from after its semicolon.
-fn read_primitive<'a>(scope: &Scope, at: u32, form: Primitive, start: Rest<'a>) -> Parsed<'a, Stmt>
-    requires locals { length scope.now.locals ≤ most_locals }
-    requires form { start.at ≡ at + primitive_size (primitive_tree form) + 1 }
-    ensures read { Gives (λ r. read_in (statement_of r.0) scope.now r.1) result
-        (primitive_in scope.now at (primitive_tree form.entry) (kinds_left start.entry)) }
-    ensures place { IfOk result (λ r. Within start.entry r.1) }
+/// One primitive, and the place after its semicolon.
+pub fn primitive_statement(scope: &Scope, at: u32, form: Primitive) -> Placed<Stmt>
+    requires room { CanLabel scope.now }
+    requires place { at + (primitive_size (primitive_tree form) + 1) < 2 ^ 32 }
+    ensures { (lines : List ℕ) (in_loop : Bool) → MeansHere statement_of
+        (statement_means lines scope.now in_loop at (PrimitiveStatement (primitive_tree form.entry)))
+        scope.now scope.now at (primitive_size (primitive_tree form.entry) + 1) result }
 {
+    let after = at + primitive_size(form) + 1;
     match primitive(scope, at, form)? {
-        Some(primitive) => Ok((Stmt::One(primitive), start)),
-        None => Ok((Stmt::Skip, start)),
-    }
-}
-
-/// A step: an atomic block, a call, or one primitive.
-#[tactic(auto, unfolding(crate::specs::Reading::step_in))]
-fn read_step<'a>(alloc: Global, scope: &mut Scope, start: Rest<'a>) -> Parsed<'a, Stmt>
-    requires room { CanLabel scope.old }
-    ensures read { Gives (λ r. read_in (statement_of r.0) scope.new r.1) result
-        (step_in scope.old start.entry.at (kinds_left start.entry)) }
-    ensures labels { IfOk result (λ r. AddsLabelsWithin scope.old scope.new start.entry r.1) }
-{
-    if let Some(after) = word_symbol_at(start, Keyword::Atomic, Symbol::OpenBrace) {
-        return read_atomic(alloc, scope, start.at, after);
-    }
-    if let Some((form, after)) = call_at(start) {
-        return read_call(scope, start.at, form, after);
-    }
-    match primitive_line_at(start) {
-        Some((form, after)) => read_primitive(scope, start.at, form, after),
-        None => Err(ParseFault::Syntax { at: start.at }),
-    }
-}
-
-/// A statement that has no block of statements.
-#[tactic(auto, unfolding(crate::specs::Reading::flat_in))]
-pub fn read_flat<'a>(
-    alloc: Global,
-    scope: &mut Scope,
-    in_loop: bool,
-    start: Rest<'a>,
-) -> Parsed<'a, Stmt>
-    requires room { CanLabel scope.old }
-    ensures read { Gives (λ r. read_in (statement_of r.0) scope.new r.1) result
-        (flat_in scope.old in_loop start.entry.at (kinds_left start.entry)) }
-    ensures labels { IfOk result (λ r. AddsLabelsWithin scope.old scope.new start.entry r.1) }
-{
-    if let Some(after) = word_symbol_at(start, Keyword::Break, Symbol::Semicolon) {
-        return read_break(in_loop, start.at, after);
-    }
-    if let Some(after) = word_symbol_at(start, Keyword::Return, Symbol::Semicolon) {
-        return Ok((Stmt::Return, after));
-    }
-    match label_at(start) {
-        Some((name, after)) => read_label(scope, start.at, name, after),
-        None => read_step(alloc, scope, start),
+        Some(primitive) => Ok((Stmt::One(primitive), after)),
+        None => Ok((Stmt::Skip, after)),
     }
 }

@@ -1,23 +1,24 @@
 // Primitives that are one step: those of an atomic block and those of `init`. A step has at most 64,
 // of which one allocates; `skip` counts for none.
-ghost use Rattle.std.specs.Prelude.{◌≡◌, ◌==◌, ◌+◌, ◌≤◌, if◌then◌else◌, Option, Some};
-ghost use Rattle.std.specs.Prelude.{Result, Ok, [], false, IfOk, length};
-ghost use Rattle.plc_lang.specs.declared.syntax.Primitive.{Primitive};
+ghost use Rattle.std.specs.Prelude.{◌≡◌, ◌==◌, ◌+◌, ◌<◌, ◌≤◌, ◌^◌, if◌then◌else◌, Option, Some};
+ghost use Rattle.std.specs.Prelude.{Result, Ok, [], false, IfOk, length, map};
+ghost use Rattle.std.specs.List.{sum_by};
 ghost use Rattle.plc_base.specs.Limits.{most};
-ghost use Rattle.plc_syntax.specs.Syntax.{kinds};
-ghost use Rattle.plc_scope.specs.declared.fault.ParseFault.{ParseFault};
-ghost use Rattle.plc_scope.specs.Answers.{Gives, Within};
-ghost use Rattle.plc_scope.specs.Scope.{most_locals};
+ghost use Rattle.plc_lang.specs.declared.syntax.Primitive.{Primitive};
+ghost use Rattle.plc_scope.specs.Answers.{Gives};
 ghost use Rattle.plc_scope.specs.Limits.{stands_at};
+ghost use Rattle.plc_scope.specs.Scope.{most_locals};
+ghost use Rattle.plc_scope.specs.declared.fault.ParseFault.{ParseFault};
 ghost use Rattle.plc_parse.specs.Kinds.{atomic_forms, initial_forms};
-ghost use Rattle.plc_parse.specs.Reading.{with_form, TakesTokens, forms_in};
-ghost use Rattle.plc_outparse.specs.Views.{read_with, kinds_left};
+ghost use Rattle.plc_parse.specs.Meaning.{forms_mean};
+ghost use Rattle.plc_parse.specs.Views.{with_form};
 
+use crate::placed::Placed;
+use crate::sizes::{primitive_size, set_size};
 use plc_base::{Items, What1};
-use plc_forms::{Rest, closing_at, initial_line_at, primitive_line_at};
 use plc_lang::{Prim, is_new};
-use plc_outparse::Parsed;
-use plc_scope::{ParseFault, Scope, initial, primitive};
+use plc_scope::{Meaning, ParseFault, Scope, initial, primitive};
+use plc_syntax::{Initial, Primitive as PrimitiveForm};
 use std::alloc::Global;
 
 /// The primitives of a step so far, and whether one of them allocates.
@@ -64,7 +65,7 @@ impl Step {
 
     /// What a form at a place means, added. The limit's place is the form's first token, so a fault of
     /// that token goes before it.
-    fn add(&mut self, at: u32, meaning: Result<Option<Prim>, ParseFault>) -> Result<(), ParseFault>
+    fn add(&mut self, at: u32, meaning: Meaning<Option<Prim>>) -> Result<(), ParseFault>
         ensures { (said : Result (Option Primitive) ParseFault) → Gives (λ k. k) meaning said
             → Gives (λ _. (self.new.primitives, self.new.has_new)) result
             (with_form self.old.primitives self.old.has_new at said) }
@@ -90,70 +91,71 @@ impl Step {
     }
 }
 
-/// What a form means, and what is after it; none where no form stands.
-pub type FormAt<'a> = Option<(Result<Option<Prim>, ParseFault>, Rest<'a>)>;
-
-/// The forms that a step is made of, each with its semicolon.
-pub trait StepForms {
-    ghost use Rattle.std.specs.Prelude.{◌≡◌, ◌≤◌, None, MatchOption, length};
-    ghost use Rattle.plc_syntax.specs.Syntax.{kinds};
+/// A form that a step is made of, with its semicolon.
+pub trait StepForm: Copy {
+    ghost use Rattle.std.specs.Prelude.{◌≡◌, ◌+◌, ◌<◌, ◌≤◌, ◌^◌, length};
+    ghost use Rattle.plc_scope.specs.Answers.{Gives};
     ghost use Rattle.plc_scope.specs.Scope.{most_locals};
     ghost use Rattle.plc_parse.specs.Kinds.{FormKind};
-    ghost use Rattle.plc_parse.specs.Reading.{FormRead};
 
-    ghost kind: { FormKind };
+    ghost kind: { FormKind Self };
 
-    /// The form at the front.
-    fn next<'a>(scope: &Scope, start: Rest<'a>) -> FormAt<'a>
-        requires { length scope.now.locals ≤ most_locals }
-        ensures { MatchOption result (kind.item (kinds start.entry.tokens.now) ≡ None)
-            (λ r. FormRead kind.item (kind.means scope.now) kind.size start.entry r.0 r.1) };
+    /// What the form means at a place.
+    fn meaning(self, scope: &Scope, at: u32) -> Meaning<Option<Prim>>
+        requires locals { length scope.now.locals ≤ most_locals }
+        requires place { at + kind.size (kind.tree self) < 2 ^ 32 }
+        ensures { Gives (λ k. k) result (kind.means scope.now at (kind.tree self)) };
+
+    /// How many tokens the form has, without its semicolon.
+    fn size(self) -> u32
+        ensures { result ≡ kind.size (kind.tree self) };
 }
 
-/// The forms of an atomic block.
-pub struct AtomicForms;
-
-/// The forms of `init`.
-pub struct InitialForms;
-
-impl StepForms for AtomicForms {
+impl<'a> StepForm for PrimitiveForm<'a> {
     ghost kind = { atomic_forms };
 
-    fn next<'a>(scope: &Scope, start: Rest<'a>) -> FormAt<'a> {
-        let (form, after) = primitive_line_at(start)?;
-        Some((primitive(scope, start.at, form), after))
+    fn meaning(self, scope: &Scope, at: u32) -> Meaning<Option<Prim>> {
+        primitive(scope, at, self)
+    }
+
+    fn size(self) -> u32 {
+        primitive_size(self)
     }
 }
 
-impl StepForms for InitialForms {
+impl<'a> StepForm for Initial<'a> {
     ghost kind = { initial_forms };
 
-    fn next<'a>(scope: &Scope, start: Rest<'a>) -> FormAt<'a> {
-        let (form, after) = initial_line_at(start)?;
-        Some((initial(scope, start.at, form), after))
+    fn meaning(self, scope: &Scope, at: u32) -> Meaning<Option<Prim>> {
+        initial(scope, at, self)
+    }
+
+    fn size(self) -> u32 {
+        match self {
+            Initial::Set(set) => set_size(set),
+            Initial::Ghost(_) => 6,
+        }
     }
 }
 
-/// The primitives of a step, from after its brace: forms while there is one, and the closing brace.
-pub fn read_forms<'a, F: StepForms>(
+/// The primitives of a step, from a place on, and the place after the last one's semicolon.
+pub fn step_of<F: StepForm>(
     alloc: Global,
     scope: &Scope,
-    start: Rest<'a>,
-) -> Parsed<'a, Items<Prim>>
+    start: u32,
+    forms: &[F],
+) -> Placed<Items<Prim>>
     requires locals { length scope.now.locals ≤ most_locals }
-    requires shrinks { TakesTokens F.kind.item }
-    ensures read { Gives (λ r. read_with r.0 r.1) result
-        (forms_in F.kind.item (F.kind.means scope.now) F.kind.size start.entry.at (kinds_left start.entry)) }
-    ensures place { IfOk result (λ r. Within start.entry r.1) }
+    requires place { start + sum_by (λ x. F.kind.size x + 1) (map F.kind.tree forms.now) < 2 ^ 32 }
+    ensures read { Gives (λ r. (r.0, r.1)) result
+        (forms_mean (F.kind.means scope.now) F.kind.size 0 false start (map F.kind.tree forms.now)) }
+    ensures place { IfOk result (λ r. r.1 ≡ start + sum_by (λ x. F.kind.size x + 1) (map F.kind.tree forms.now)) }
 {
     let mut step = Step::new(alloc);
-    let mut rest = start;
-    while let Some((meaning, after)) = F::next(scope, rest) {
-        step.add(rest.at, meaning)?;
-        rest = after;
+    let mut at = start;
+    for form in forms {
+        step.add(at, form.meaning(scope, at))?;
+        at += form.size() + 1;
     }
-    match closing_at(rest) {
-        Some(after) => Ok((step.primitives, after)),
-        None => Err(ParseFault::Syntax { at: rest.at }),
-    }
+    Ok((step.primitives, at))
 }

@@ -12,8 +12,11 @@ use std::alloc::Global;
 /// A map of which boxes have a row, and the versions of it and of its marks in the state that is shown.
 #[derive(Clone, Copy)]
 pub(crate) struct Column {
+    /// The field.
     pub map: Map,
+    /// The version of its values.
     pub version: u16,
+    /// The version of its marks.
     pub mark_version: u16,
 }
 

@@ -8,7 +8,7 @@ use Rattle.plc_lang.specs.declared.syntax.Ghost.{Ghost}
 use Rattle.plc_lang.specs.declared.syntax.Op.{Op}
 use Rattle.plc_lang.specs.declared.syntax.Primitive.{Primitive}
 use Rattle.plc_syntax.specs.Trees.{Text, FieldTree, FunctionTree, WatchTree, UseHazard, UseEpoch, GhostTree, InitialTree, OpTree, OutlineTree, FileTree}
-use Rattle.plc_forms.specs.Sizes.{initial_size, watch_size}
+use Rattle.plc_syntax.specs.Sizes.{initial_size, watch_size}
 use Rattle.plc_scope.specs.declared.fault.ParseFault.{ParseFault}
 use Rattle.plc_scope.specs.declared.scope.Scope.{Scope}
 use Rattle.plc_scope.specs.declared.binding.Binding.{Binding}

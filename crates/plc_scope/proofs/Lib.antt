@@ -2,3 +2,4 @@ pub mod Sequence
 pub mod Holds
 pub mod Limits
 pub mod Finds
+pub mod Turns

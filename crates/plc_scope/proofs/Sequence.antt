@@ -1,5 +1,5 @@
--- Readings in order, and faults that end them.
-use Rattle.std.proofs.Common.{◌≡◌, Bool, true, false, if◌then◌else◌, Result, Ok, Err, refl, sym, ap, ◌∙◌}
+-- Meanings in order, and faults that end them.
+use Rattle.std.proofs.Common.{◌≡◌, Result, Ok, Err, refl, sym, ap, ◌∙◌}
 use Rattle.plc_scope.specs.declared.fault.ParseFault.{ParseFault}
 use Rattle.plc_scope.specs.declared.fault.ParseFault.TheVariants as faults
 use Rattle.plc_scope.specs.Answers.{FailsAs}
@@ -13,25 +13,12 @@ pub bind_joins : {A B C : Type 0} (r : Result A ParseFault) (f : A → Result B 
 bind_joins (Ok x) f g = refl
 bind_joins (Err e) f g = refl
 
--- what is read and means the same goes on
-pub bind_within : {A B C : Type 0} (r : Result A ParseFault) (F : A → Result C ParseFault) (G : A → Result B ParseFault) (f : B → Result C ParseFault) → ((x : A) → F x ≡ (G x >>= f)) → (r >>= F) ≡ ((r >>= G) >>= f)
+-- what means the same goes on
+pub bind_within : {A B C : Type 0} (r : Result A ParseFault) (F : A → Result C ParseFault)
+    (G : A → Result B ParseFault) (f : B → Result C ParseFault) → ((x : A) → F x ≡ (G x >>= f))
+    → (r >>= F) ≡ ((r >>= G) >>= f)
 bind_within (Ok x) F G f h = h x
 bind_within (Err e) F G f h = refl
-
--- the same where tokens were read before
-pub read_within : {A B C D : Type 0} (r : Result A ParseFault) (m : Result D ParseFault) (k : D → Result A ParseFault) (F : A → Result C ParseFault) (G : D → Result B ParseFault) (f : B → Result C ParseFault)
-    → r ≡ (m >>= k) → ((x : D) → (k x >>= F) ≡ (G x >>= f)) → (r >>= F) ≡ ((m >>= G) >>= f)
-read_within r m k F G f e h = ap (λ s. s >>= F) e ∙ bind_joins m k F ∙ bind_within m (λ x. k x >>= F) G f h
-
--- the same where nothing is after
-pub read_same : {A C D : Type 0} (r : Result A ParseFault) (m : Result D ParseFault) (k : D → Result A ParseFault) (F : A → Result C ParseFault) (G : D → Result C ParseFault)
-    → r ≡ (m >>= k) → ((x : D) → (k x >>= F) ≡ G x) → (r >>= F) ≡ (m >>= G)
-read_same r m k F G e h = ap (λ s. s >>= F) e ∙ bind_joins m k F ∙ bind_same m (λ x. k x >>= F) G h
-
--- within a limit
-pub limit_within : {A B : Type 0} (past : Bool) (e : ParseFault) (a : Result B ParseFault) (r : Result A ParseFault) (f : A → Result B ParseFault) → a ≡ (r >>= f) → (if past then Err e else a) ≡ ((if past then Err e else r) >>= f)
-limit_within true e a r f h = refl
-limit_within false e a r f h = h
 
 -- a fault is passed on
 pub bind_stops : {A B : Type 0} (e : ParseFault) (r : Result A ParseFault) (f : A → Result B ParseFault) → FailsAs e r → FailsAs e (r >>= f)
@@ -41,3 +28,10 @@ bind_stops e r f h = ap (λ x. x >>= f) h
 pub fails_along : {A : Type 0} (e : ParseFault) (r s : Result A ParseFault) → r ≡ s → FailsAs e r → FailsAs e s
 fails_along faults.Memory r s p h = tt
 fails_along e r s p h = sym p ∙ h
+
+-- what goes on with a value fails where it failed before
+pub fails_before : {A B : Type 0} (e : ParseFault) (m : Result A ParseFault) (f : A → B)
+    → FailsAs e (m >>= λ x. Ok (f x)) → FailsAs e m
+fails_before faults.Memory m f h = tt
+fails_before e (Ok x) f h = absurd cc
+fails_before e (Err g) f h = let same : g ≡ e = cc in ap Err same

@@ -1,7 +1,5 @@
--- How the program's answers speak of what the specification says, what is left of the tokens, and how the list of names
--- grows.
+-- How the program's answers speak of what the specification says, and how the list of names grows.
 use Rattle.std.specs.Prelude.{◌≡◌, ◌+◌, ◌≤◌, ◌<◌, ℕ, length, Result, Ok, Err}
-use Rattle.plc_forms.specs.declared.rest.Rest.{Rest}
 use Rattle.plc_scope.specs.declared.fault.ParseFault.{ParseFault}
 use Rattle.plc_scope.specs.declared.fault.ParseFault.TheVariants as faults
 use Rattle.plc_scope.specs.declared.scope.Scope.{Scope}
@@ -16,10 +14,6 @@ FailsAs e said = said ≡ Err e
 abbrev pub Gives : {X Y : Type 0} → (X → Y) → Result X ParseFault → Result Y ParseFault → Type 0
 Gives view (Ok x) said = said ≡ Ok (view x)
 Gives view (Err e) said = FailsAs e said
-
--- what is left ends where that before ended
-pub record Within (before after : Rest) : Type 0 where
-  pub end : after.at + length after.tokens.now ≡ before.at + length before.tokens.now
 
 -- so many more names can be declared
 pub record HasRoom (scope : Scope) (count : ℕ) : Type 0 where

@@ -4,7 +4,5 @@ pub mod Primitives
 pub mod Answers
 pub mod Limits
 pub mod Views
--- what contracts say for the crates above alone
-pub mod Read
 -- words of private functions alone
 pub mod Reused

@@ -30,7 +30,7 @@ use Rattle.plc_syntax.specs.Trees.{TestCondition, RefreshCondition, CasCondition
 use Rattle.plc_syntax.specs.Trees.{RefreshPrimitive, GhostPrimitive, ActivePrimitive, AssumePrimitive, SkipPrimitive}
 use Rattle.plc_syntax.specs.Trees.{ArgumentTree, NoArgument, NullArgument, NameArgument, ActiveArgument}
 use Rattle.plc_syntax.specs.Trees.{MarkValue, UnmarkValue, MarkedTest, UnmarkedTest}
-use Rattle.plc_forms.specs.Sizes.{word_size}
+use Rattle.plc_syntax.specs.Sizes.{word_size}
 use Rattle.plc_scope.specs.declared.fault.ParseFault.{ParseFault}
 use Rattle.plc_scope.specs.declared.fault.ParseFault.TheVariants as faults
 use Rattle.plc_scope.specs.declared.scope.Scope.{Scope}

@@ -4,8 +4,8 @@
 #![tactic(auto, unfolding(crate::specs::Primitives::set_means))]
 
 ghost use Rattle.std.specs.Prelude.{◌+◌, ◌<◌, ◌≤◌, ◌^◌, length};
-ghost use Rattle.plc_forms.specs.Sizes.{value_size, set_size};
-ghost use Rattle.plc_forms.specs.Views.{value_tree, atom_tree, set_tree};
+ghost use Rattle.plc_syntax.specs.Sizes.{value_size, set_size};
+ghost use Rattle.plc_syntax.specs.Views.{value_tree, atom_tree, set_tree};
 ghost use Rattle.plc_scope.specs.Answers.{Gives};
 ghost use Rattle.plc_scope.specs.Primitives.{pointer_value, data_value, value_into, pointer_atom};
 ghost use Rattle.plc_scope.specs.Primitives.{data_atom, atom_into, set_means};
@@ -16,8 +16,8 @@ use crate::fault::{Meaning, ParseFault};
 use crate::numbers::number;
 use crate::scope::Scope;
 use plc_base::FieldId;
-use plc_forms::{Atom, Place, Set, Value};
 use plc_lang::{Num, Prim, Var};
+use plc_syntax::{Atom, Place, Set, Value};
 
 /// What is put into a pointer variable.
 fn pointer_value(scope: &Scope, p: Var, at: u32, value: Value) -> Meaning<Prim>

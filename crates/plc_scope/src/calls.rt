@@ -1,8 +1,8 @@
 // What calls of reclaimer functions mean: the function's name is judged first, with the number of its
 // arguments, and then the argument.
 ghost use Rattle.std.specs.Prelude.{true, ◌+◌, ◌<◌, ◌≤◌, ◌^◌, length};
-ghost use Rattle.plc_forms.specs.Sizes.{call_size};
-ghost use Rattle.plc_forms.specs.Views.{argument_tree};
+ghost use Rattle.plc_syntax.specs.Sizes.{call_size};
+ghost use Rattle.plc_syntax.specs.Views.{argument_tree};
 ghost use Rattle.plc_scope.specs.Answers.{Gives};
 ghost use Rattle.plc_scope.specs.Primitives.{argument_means, call_means};
 ghost use Rattle.plc_scope.specs.Scope.{most_locals};
@@ -11,8 +11,8 @@ ghost use Rattle.plc_scope.specs.Views.{call_meaning};
 use crate::fault::{Meaning, ParseFault};
 use crate::scope::Scope;
 use plc_base::FuncId;
-use plc_forms::{Argument, Call};
 use plc_lang::Arg;
+use plc_syntax::{Argument, Call};
 
 /// A call of a reclaimer function: the function, its argument, and whether the argument is claimed to
 /// be active.

@@ -3,8 +3,8 @@
 #![tactic(auto, unfolding(crate::specs::Primitives::test_means, crate::specs::Primitives::condition_means))]
 
 ghost use Rattle.std.specs.Prelude.{◌+◌, ◌<◌, ◌≤◌, ◌^◌, length, ◌≡◌};
-ghost use Rattle.plc_forms.specs.Sizes.{test_size, condition_size};
-ghost use Rattle.plc_forms.specs.Views.{text_or_none, atom_tree, relation_tree, test_tree, condition_tree};
+ghost use Rattle.plc_syntax.specs.Sizes.{test_size, condition_size};
+ghost use Rattle.plc_syntax.specs.Views.{text_or_none, atom_tree, relation_tree, test_tree, condition_tree};
 ghost use Rattle.plc_scope.specs.Answers.{Gives};
 ghost use Rattle.plc_scope.specs.Primitives.{pointer_equality, pointer_test, relation, data_test, mark_test};
 ghost use Rattle.plc_scope.specs.Primitives.{test_means, pointer_or_null, cas_means, condition_means};
@@ -15,8 +15,8 @@ use crate::fault::{Meaning, ParseFault};
 use crate::numbers::number;
 use crate::refreshes::refresh_into;
 use crate::scope::Scope;
-use plc_forms::{Atom, Cas, Condition, Relation, Test};
 use plc_lang::{Cond, Prim, Rel, Var};
+use plc_syntax::{Atom, Cas, Condition, Relation, Test};
 
 /// A test of equality of pointers, or its opposite.
 fn pointer_equality(scope: &Scope, p: Var, is_equal: bool, at: u32, atom: Atom) -> Meaning<Prim>

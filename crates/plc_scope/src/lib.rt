@@ -1,4 +1,4 @@
-//! Which names are in reach, and what primitives, conditions and calls mean, over `plc_forms`'s forms;
+//! Which names are in reach, and what primitives, conditions and calls mean, over `plc_syntax`'s forms;
 //! the layer above uses that each answer is the one that the definitions give for the form's tree, or
 //! their fault at the least token.
 #![tactic(auto)]

@@ -2,15 +2,15 @@
 ghost use Rattle.std.specs.Prelude.{◌≤◌, length};
 ghost use Rattle.plc_lang.specs.declared.syntax.Num.{Num};
 ghost use Rattle.plc_lang.specs.declared.syntax.Primitive.{Primitive};
-ghost use Rattle.plc_forms.specs.Views.{atom_tree};
+ghost use Rattle.plc_syntax.specs.Views.{atom_tree};
 ghost use Rattle.plc_scope.specs.Answers.{Gives};
 ghost use Rattle.plc_scope.specs.Primitives.{with_number};
 ghost use Rattle.plc_scope.specs.Scope.{most_locals};
 
 use crate::fault::{Meaning, ParseFault};
 use crate::scope::Scope;
-use plc_forms::Atom;
 use plc_lang::Num;
+use plc_syntax::Atom;
 
 /// The number that is put into a data field or compared with a data local.
 pub fn number(scope: &Scope, at: u32, atom: Atom) -> Meaning<Num>

@@ -2,8 +2,8 @@
 #![tactic(auto, unfolding(crate::specs::Primitives::primitive_means, crate::specs::Primitives::initial_means))]
 
 ghost use Rattle.std.specs.Prelude.{◌+◌, ◌<◌, ◌≤◌, ◌^◌, length};
-ghost use Rattle.plc_forms.specs.Sizes.{primitive_size, initial_size};
-ghost use Rattle.plc_forms.specs.Views.{primitive_tree, initial_tree};
+ghost use Rattle.plc_syntax.specs.Sizes.{primitive_size, initial_size};
+ghost use Rattle.plc_syntax.specs.Views.{primitive_tree, initial_tree};
 ghost use Rattle.plc_scope.specs.Answers.{Gives};
 ghost use Rattle.plc_scope.specs.Primitives.{primitive_means, initial_means};
 ghost use Rattle.plc_scope.specs.Scope.{most_locals};
@@ -13,8 +13,8 @@ use crate::conditions::test;
 use crate::fault::Meaning;
 use crate::refreshes::{ghost_set, refresh};
 use crate::scope::Scope;
-use plc_forms::{Initial, Primitive};
 use plc_lang::Prim;
+use plc_syntax::{Initial, Primitive};
 
 /// The primitive of a form at a place, or `None` for `skip`, which is none: `Undeclared` or
 /// `WrongSort` at the least token that can't stand there.

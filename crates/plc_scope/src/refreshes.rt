@@ -1,8 +1,8 @@
 // What refreshes and assignments to auxiliary fields mean: what is written is judged before what is
 // put into it.
 ghost use Rattle.std.specs.Prelude.{◌+◌, ◌<◌, ◌≤◌, ◌^◌, length};
-ghost use Rattle.plc_forms.specs.Sizes.{place_size, refresh_size, ghost_set_size};
-ghost use Rattle.plc_forms.specs.Views.{place_tree, refresh_tree, ghost_value_tree, ghost_set_tree};
+ghost use Rattle.plc_syntax.specs.Sizes.{place_size, refresh_size, ghost_set_size};
+ghost use Rattle.plc_syntax.specs.Views.{place_tree, refresh_tree, ghost_value_tree, ghost_set_tree};
 ghost use Rattle.plc_scope.specs.Answers.{Gives};
 ghost use Rattle.plc_scope.specs.Primitives.{refresh_from, refresh_name_means, refresh_means};
 ghost use Rattle.plc_scope.specs.Primitives.{ghost_value_means, ghost_set_means};
@@ -10,8 +10,8 @@ ghost use Rattle.plc_scope.specs.Scope.{most_locals};
 
 use crate::fault::{Meaning, ParseFault};
 use crate::scope::Scope;
-use plc_forms::{GhostSet, GhostValue, Place, Refresh};
 use plc_lang::{GhostVal, Prim};
+use plc_syntax::{GhostSet, GhostValue, Place, Refresh};
 
 /// What a pointer local is refreshed from.
 fn refresh_from(scope: &Scope, p: u16, at: u32, place: Place) -> Meaning<Prim>

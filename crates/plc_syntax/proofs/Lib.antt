@@ -1,14 +1,6 @@
 pub mod Again
-pub mod Appends
-pub mod Exact
-pub mod Front
-pub mod Laws
-pub mod Marked
-pub mod Meaning
-pub mod Rows
-pub mod Samples
-pub mod Tails
-pub mod Places
-pub mod Steps
 pub mod Braced
+pub mod Combinators
 pub mod Depths
+pub mod FormLaws
+pub mod Marked

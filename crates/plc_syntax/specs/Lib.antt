@@ -1,13 +1,11 @@
--- what contracts of public calls say
-pub mod Answer
+-- the grammar, and what contracts of public calls say
+pub mod Answers
 pub mod Depth
 pub mod Faults
+pub mod Forms
 pub mod Marks
 pub mod Nesting
+pub mod Sizes
 pub mod Syntax
 pub mod Trees
--- what contracts say for the crates above alone
-pub mod Machine
-pub mod Table
--- words of private functions alone
-pub mod Braces
+pub mod Views

@@ -1,16 +1,28 @@
-//! The syntax of a file: its grammar as trees with their spelling, over `plc_lex`'s tokens. The layer
-//! above uses `syntax`: tokens that it accepts have a tree, and a fault is at the least token with
-//! which no file begins any more, or at the brace of the first block that stands within 64 others.
+//! The syntax of a file, over `plc_lex`'s tokens: its grammar as trees with their spelling, what the words of
+//! its rules say (which tokens are a file's, where others stop being so, and how deep blocks stand within one
+//! another), and a reader of each form that holds no list. `plc_tree` reads lists, blocks and whole files with
+//! them: each answers the tree that is read at the front of tokens by `specs/Forms.antt`.
 #![tactic(auto)]
 
-mod expected;
+mod clause;
+mod condition;
+mod declaration;
 mod fault;
-mod machine;
-mod marks;
-mod nesting;
-mod recognizer;
-mod table;
+mod form;
+mod front;
+mod laws;
+mod rest;
+mod statement;
 
-pub use fault::SyntaxFault;
-pub use marks::trees_spell_their_marks;
-pub use recognizer::{depth_is_that_of_braces, outline_fault, syntax, syntax_faults_are_one};
+pub use clause::{bound_at, depth_at, literal_at, or_literal_at};
+pub use condition::condition_at;
+pub use declaration::{field_at, function_at, initial_at, shared_at, watch_at};
+pub use fault::Fault;
+pub use form::{
+    Argument, Atom, Bound, Call, Cas, Condition, Declaration, Flag, Function, GhostSet, GhostValue,
+    Initial, Literal, Place, Primitive, Refresh, Relation, Set, Shared, Term, Test, Value, Watch,
+};
+pub use front::{Read, comma_name_at, first, name_at, stuck, symbol_at, word_at};
+pub use laws::{depth_is_that_of_braces, trees_spell_their_marks};
+pub use rest::Rest;
+pub use statement::{argument_at, during_at, named_tail_at, primitive_line_at};

@@ -1,8 +1,10 @@
-// Syntax alone: each form of the grammar, and how deep blocks may stand, beside what the parser says of it.
+// Syntax alone: each form of the grammar, how deep blocks may stand, beside what the parser says of it, and an
+// outline at the front of tokens.
 use crate::tests::tables::{Answers, assert_answer, assert_lines};
 use crate::tests::texts::{ForTokens, Lexed, fate, number, push_came, push_repeated};
 use plc_lex::Token;
-use plc_syntax::syntax;
+use plc_syntax::Fault;
+use plc_tree::{SyntaxFault, file_tree, outline_tree};
 use std::alloc::{AllocError, Global};
 
 // Each form of the grammar at least once.
@@ -35,7 +37,10 @@ impl ForTokens for SyntaxAlone {
         answer: &mut String,
         all: &[Token],
     ) -> Result<(), AllocError> {
-        let fate = syntax(alloc, all);
+        let fate: Result<(), SyntaxFault> = match file_tree(alloc, all) {
+            Ok(_file) => Ok(()),
+            Err(fault) => Err(fault),
+        };
         write!(answer, "{fate:?}")
     }
 }
@@ -90,4 +95,39 @@ fn blocks_stand_in_blocks_at_most_64_deep(rt: HostRuntime) -> Result<(), AllocEr
 #[test]
 fn each_form_is_syntax(rt: HostRuntime) -> Result<(), AllocError> {
     assert_answer(&rt, rt.alloc(), &Lexed(SyntaxAlone), EACH_FORM, "Ok(())")
+}
+
+// How many tokens stand after the outline at the front, or where it is known that none stands there.
+struct OutlineAlone;
+
+impl ForTokens for OutlineAlone {
+    fn push_for(
+        &self,
+        alloc: Global,
+        answer: &mut String,
+        all: &[Token],
+    ) -> Result<(), AllocError> {
+        match outline_tree(alloc, all) {
+            Ok((_outline, rest)) => write!(answer, "{} left", rest.len()),
+            Err(Fault::Syntax { at }) => write!(answer, "syntax {at}"),
+            Err(Fault::Memory) => write!(answer, "memory"),
+        }
+    }
+}
+
+const OUTLINES: &str = "\
+outline { } => 0 left
+outline { depth 2; } => 0 left
+outline { inv Top == null; } => 0 left
+outline { } } op op => 3 left
+outline { => syntax 2
+outline { depth => syntax 3
+outline { inv Top == null; op => syntax 7
+outline { inv Top == or => syntax 5
+op => syntax 0
+";
+
+#[test]
+fn an_outline_at_the_front_is_a_tree(rt: HostRuntime) -> Result<(), AllocError> {
+    assert_lines(&rt, rt.alloc(), &Lexed(OutlineAlone), OUTLINES)
 }

@@ -1,79 +1,132 @@
-use Rattle.std.proofs.Common.{◌≡◌, ◌∙◌, ◌+◌, ◌-◌, ℕ, suc, List, [], ◌∷◌, ◌++◌, sym, ap, arith}
+use Rattle.std.proofs.Common.{◌∙◌, ◌+◌, ℕ, List, Ok, sym, ap, arith}
 use Rattle.std.proofs.lemmas.Result.{err_from_is_err_and}
-use Rattle.plc_syntax.specs.Syntax.{kinds}
 use Rattle.plc_lang.specs.declared.syntax.Line.{Line}
-use Rattle.plc_lang.specs.Statements.{Statements}
-use Rattle.plc_parse.specs.Reading.{ors_in, block_in}
+use Rattle.plc_lang.specs.Statements.{Statements, Blocks, Then}
+use Rattle.std.proofs.Math.ListN.{drop_of_length-le}
+use Rattle.plc_parse.specs.Meaning.{line_at, statements_mean}
+use Rattle.plc_parse.specs.Views.{choices_mean}
+use Rattle.plc_lang.specs.Views.{statement_of}
+use Rattle.plc_syntax.specs.Trees.{BlockTree}
+use Rattle.plc_tree.specs.declared.tree.Stmt.{Stmt}
+use Rattle.plc_tree.specs.Views.{block_tree, ors_tree}
+use Rattle.plc_scope.specs.Scope.{◌>>=◌}
+use Rattle.plc_scope.proofs.Sequence.{bind_stops}
+use Rattle.plc_scope.proofs.Turns.{left_at, makes, makes_none, made}
+use Rattle.plc_parse.specs.Sizes.{statements_size, ors_size}
 use Rattle.plc_parse.specs.Units.{lines_of}
-use Rattle.plc_parse.proofs.BlockLoop.{lines_before, block_out, block_end, block_turn, block_stop, blocks_before, ors_out, ors_end, ors_turn, ors_stop}
 use Rattle.plc_parse.proofs.Growth.{labels_then, can_still_label}
+use Rattle.plc_parse.proofs.Loops.{lines_before, one_line_more, all_lines, line_made, lines_made, statements_from, one_statement}
+use Rattle.plc_parse.proofs.Loops.{statements_go, blocks_before, one_block_more, all_blocks, block_made, blocks_made, ors_from}
+use Rattle.plc_parse.proofs.Loops.{one_block, ors_go}
 use Rattle.plc_parse.proofs.block.+block.Goals as goal
 
-pub read_block-returns-in-Some : goal.read_block-returns-in-Some
-read_block-returns-in-Some t c =
-    let more : c.args.context.most - c.loop-i.i ≡ suc (c.args.context.most - 1 - c.loop-i.i) = omega (arith, c.loop-i-test.true) in
-    record {
-      read = block_end (lines_of c.args.context.tokens.now) c.args.context.in_loop (c.args.context.most - c.loop-i.i) (c.args.context.most - 1 - c.loop-i.i) c.loop-i.lines.items c.new.result c.loop-i.scope c.loop-i.rest.at c.in-Some.after.at _ (kinds c.in-Some.after.tokens.now) _ more c.in-Some.ensures.read
-          c.new.ensures c.in-Some.ensures.after.at c.loop-i.invariant.read;
-      labels = record { grows = c.loop-i.invariant.grows; place = record { end = omega (arith, c.in-Some.ensures.after.at, c.in-Some.ensures.after.tokens, c.loop-i.invariant.place.end) } };
-    }
-
-pub read_block-returns-in_err-stmt : goal.read_block-returns-in_err-stmt
-read_block-returns-in_err-stmt t c =
-    let p = err_from_is_err_and c.from_residual.result c.from_residual.ensures.1 in
-    let more : c.args.context.most - c.loop-i.i ≡ suc (c.args.context.most - 1 - c.loop-i.i) = omega (arith, c.loop-i-test.true) in
-    rw (p.1, p.2) (record { labels = tt; read = block_stop (lines_of c.args.context.tokens.now) c.args.context.in_loop _ (c.args.context.most - c.loop-i.i) (c.args.context.most - 1 - c.loop-i.i) c.loop-i.lines.items c.loop-i.scope c.loop-i.rest.at _ _ more c.in_default.ensures.read c.in_err-stmt.ensures.read c.loop-i.invariant.read })
-
-pub read_block-loop-i-preserved : goal.read_block-loop-i-preserved
-read_block-loop-i-preserved t c =
+pub statements-loop-stmt-preserved : goal.statements-loop-stmt-preserved
+statements-loop-stmt-preserved t c =
+    let l = c.loop-stmt in
+    let lines = lines_of c.args.context.tokens.now in
+    let in_loop = c.args.context.in_loop in
     let line : Line = record { line = c.line_at-line.result; stmt = c.in_ok-stmt.stmt } in
-    let more : c.args.context.most - c.loop-i.i ≡ suc (c.args.context.most - 1 - c.loop-i.i) = omega (arith, c.loop-i-test.true) in
-    let fuel : c.args.context.most - (c.loop-i.i + 1) ≡ c.args.context.most - 1 - c.loop-i.i = omega arith in
+    let left = ap (λ (ss : List Stmt). statements_size (block_tree ss)) (left_at c.stmts-stmt-items.result.now
+    l.stmt-index c.stmt-item.result _ c.stmt-item.is c.loop-stmt-test.true) in
     record {
-      room = can_still_label _ _ c.loop-i.invariant.room c.in_ok-stmt.ensures.labels.grows;
-      grows = labels_then _ _ _ c.loop-i.invariant.grows c.in_ok-stmt.ensures.labels.grows;
-      place = c.in_ok-stmt.ensures.labels.place;
-      read = ap (λ (ls : List Line). lines_before ls (block_in (lines_of c.args.context.tokens.now) (c.args.context.most - (c.loop-i.i + 1)) c.read_statement.new.scope c.args.context.in_loop c.in_ok-stmt.end.at (kinds c.in_ok-stmt.end.tokens.now))) c.in_ok-push.ensures.items
-          ∙ ap (λ (m : ℕ). lines_before (c.loop-i.lines.items ++ line ∷ []) (block_in (lines_of c.args.context.tokens.now) m c.read_statement.new.scope c.args.context.in_loop c.in_ok-stmt.end.at (kinds c.in_ok-stmt.end.tokens.now))) fuel
-          ∙ sym (block_turn (lines_of c.args.context.tokens.now) c.args.context.in_loop (c.args.context.most - c.loop-i.i) (c.args.context.most - 1 - c.loop-i.i) c.loop-i.lines.items line c.loop-i.scope c.read_statement.new.scope c.loop-i.rest.at c.in_ok-stmt.end.at _ (kinds c.in_ok-stmt.end.tokens.now)
-          more c.in_default.ensures.read c.line_at-line.ensures c.in_ok-stmt.ensures.read)
-          ∙ c.loop-i.invariant.read;
+      room = can_still_label _ _ l.invariant.room c.in_ok-stmt.ensures.labels;
+      grows = labels_then _ _ _ l.invariant.grows c.in_ok-stmt.ensures.labels;
+      after = omega (arith, l.invariant.after, c.in_ok-stmt.ensures.place);
+      place = omega (arith, left, l.invariant.place, c.in_ok-stmt.ensures.place);
+      read = makes (statements_from lines in_loop) (one_statement lines in_loop) line_made lines_made
+          (statements_go lines in_loop) (l.scope, l.at) _ c.stmts-stmt-items.result.now l.stmt-index c.stmt-item.result _
+          l.lines.items _ _ c.stmt-item.is c.loop-stmt-test.true
+          (λ o. ap (λ (b : Statements). (b, o.1, o.2)) (ap (λ (ls : List Line). lines_before ls o.0) c.in_ok-push.ensures.items
+          ∙ one_line_more l.lines.items line o.0
+          ∙ ap (λ (n : ℕ). lines_before l.lines.items (Then n (statement_of c.in_ok-stmt.stmt) o.0)) c.line_at-line.ensures))
+          (ap (λ r. r >>= λ f. Ok ((line_at lines l.at, f.0), (f.1, f.2))) c.in_ok-stmt.ensures.read)
+          ∙ l.invariant.read;
     }
 
-pub read_block-returns : goal.read_block-returns
-read_block-returns t c =
-    let none : c.args.context.most - c.loop-i.i ≡ 0 = omega (arith, c.loop-i-test.false) in
-    record { labels = tt; read = block_out (lines_of c.args.context.tokens.now) c.args.context.in_loop (c.args.context.most - c.loop-i.i) c.loop-i.lines.items c.loop-i.scope c.loop-i.rest.at _ _ none c.loop-i.invariant.read }
+pub statements-returns : goal.statements-returns
+statements-returns t c =
+    let l = c.loop-stmt in
+    let lines = lines_of c.args.context.tokens.now in
+    let in_loop = c.args.context.in_loop in
+    let none = ap (λ (ss : List Stmt). statements_size (block_tree ss)) (drop_of_length-le c.stmts-stmt-items.result.now
+    c.loop-stmt-test.false) in
+    let whole = ap statements_size c.stmts-stmt-items.ensures in
+    record {
+      read = ap (λ (b : BlockTree). statements_mean lines c.args.scope.now in_loop c.args.start b) (sym c.stmts-stmt-items.ensures)
+          ∙ made (statements_from lines in_loop) (one_statement lines in_loop) line_made lines_made (statements_go lines in_loop)
+          (l.scope, l.at) c.stmts-stmt-items.result.now l.stmt-index l.lines.items _ c.loop-stmt-test.false l.invariant.read
+          ∙ ap (λ (b : Statements). Ok (b, l.scope, l.at)) (all_lines l.lines.items ∙ sym c.new.ensures);
+      labels = l.invariant.grows;
+      place = omega (arith, none, whole, l.invariant.place);
+    }
 
-pub read_blocks-returns-in_default : goal.read_blocks-returns-in_default
-read_blocks-returns-in_default t c =
-    let more : c.args.context.most - c.loop.counter ≡ suc (c.args.context.most - (c.loop.counter + 1)) = omega (arith, c.loop-test.true) in
-    record { labels = record { grows = c.loop.invariant.grows; place = c.loop.invariant.place }; read = ors_end (block_in (lines_of c.args.context.tokens.now) c.args.context.most) c.args.context.in_loop (c.args.context.most - c.loop.counter) (c.args.context.most - (c.loop.counter + 1)) c.loop.choices.items c.loop.scope c.loop.rest.at _ _ more c.in_default.ensures.read c.loop.invariant.read }
-
-pub read_blocks-returns-in_err-block : goal.read_blocks-returns-in_err-block
-read_blocks-returns-in_err-block t c =
+pub choices-returns-in_err-block : goal.choices-returns-in_err-block
+unfolding choices_mean
+choices-returns-in_err-block t c =
+    let l = c.loop-block in
+    let lines = lines_of c.args.context.tokens.now in
+    let in_loop = c.args.context.in_loop in
     let p = err_from_is_err_and c.from_residual-in_err-block.result c.from_residual-in_err-block.ensures.1 in
-    let more : c.args.context.most - c.loop.counter ≡ suc (c.args.context.most - (c.loop.counter + 1)) = omega (arith, c.loop-test.true) in
     rw (p.1, p.2) (record {
       labels = tt;
-      read = ors_stop (block_in (lines_of c.args.context.tokens.now) c.args.context.most) c.args.context.in_loop _ (c.args.context.most - c.loop.counter) (c.args.context.most - (c.loop.counter + 1)) c.loop.choices.items c.loop.scope c.loop.rest.at _ (kinds c.in-Some.after.tokens.now) _ more c.in-Some.ensures.read
-          (rw c.in-Some.ensures.after.at at c.in_err-block.ensures.read) c.loop.invariant.read;
+      place = tt;
+      read = makes_none (ors_from lines in_loop) (one_block lines in_loop) block_made blocks_made (ors_go lines in_loop) (l.scope, l.at) c.args.others.now l.block-index c.block-item.result _ l.choices.items _ _
+          c.block-item.is c.loop-block-test.true (bind_stops _ _ (λ x. Ok (x.0, (x.1, x.2 + 1))) c.in_err-block.ensures.read)
+          l.invariant.read;
     })
 
-pub read_blocks-loop-preserved : goal.read_blocks-loop-preserved
-read_blocks-loop-preserved t c =
-    let more : c.args.context.most - c.loop.counter ≡ suc (c.args.context.most - (c.loop.counter + 1)) = omega (arith, c.loop-test.true) in
+pub choices-loop-block-preserved : goal.choices-loop-block-preserved
+choices-loop-block-preserved t c =
+    let l = c.loop-block in
+    let lines = lines_of c.args.context.tokens.now in
+    let in_loop = c.args.context.in_loop in
+    let left = ap (λ (bs : List BlockTree). ors_size (ors_tree bs)) (left_at c.args.others.now l.block-index
+    c.block-item.result _ c.block-item.is c.loop-block-test.true) in
     record {
-      room = can_still_label _ _ c.loop.invariant.room c.in_ok-block.ensures.labels.grows;
-      grows = labels_then _ _ _ c.loop.invariant.grows c.in_ok-block.ensures.labels.grows;
-      place = c.in_ok-block.ensures.labels.place;
-      read = ap (λ (bs : List Statements). blocks_before bs (ors_in (block_in (lines_of c.args.context.tokens.now) c.args.context.most) (c.args.context.most - (c.loop.counter + 1)) c.read_block.new.scope c.args.context.in_loop c.in_ok-block.end.at (kinds c.in_ok-block.end.tokens.now))) c.in_ok-push-2.ensures.items
-          ∙ sym (ors_turn (block_in (lines_of c.args.context.tokens.now) c.args.context.most) c.args.context.in_loop (c.args.context.most - c.loop.counter) (c.args.context.most - (c.loop.counter + 1)) c.loop.choices.items c.in_ok-block.block c.loop.scope c.read_block.new.scope c.loop.rest.at c.in_ok-block.end.at _ (kinds c.in-Some.after.tokens.now) (kinds c.in_ok-block.end.tokens.now)
-          more c.in-Some.ensures.read (rw c.in-Some.ensures.after.at at c.in_ok-block.ensures.read))
-          ∙ c.loop.invariant.read;
+      room = can_still_label _ _ l.invariant.room c.in_ok-block.ensures.labels;
+      grows = labels_then _ _ _ l.invariant.grows c.in_ok-block.ensures.labels;
+      after = omega (arith, l.invariant.after, c.in_ok-block.ensures.place);
+      place = omega (arith, left, l.invariant.place, c.in_ok-block.ensures.place);
+      read = makes (ors_from lines in_loop) (one_block lines in_loop) block_made blocks_made (ors_go lines in_loop) (l.scope, l.at) _ c.args.others.now l.block-index c.block-item.result _ l.choices.items _ _
+          c.block-item.is c.loop-block-test.true
+          (λ o. ap (λ (b : Blocks). (b, o.1, o.2)) (ap (λ (bs : List Statements). blocks_before bs o.0) c.in_ok-push-3.ensures.items
+          ∙ one_block_more l.choices.items c.in_ok-block.block o.0))
+          (ap (λ r. r >>= λ x. Ok (x.0, (x.1, x.2 + 1))) c.in_ok-block.ensures.read)
+          ∙ l.invariant.read;
     }
 
-pub read_blocks-returns : goal.read_blocks-returns
-read_blocks-returns t c =
-    let none : c.args.context.most - c.loop.counter ≡ 0 = omega (arith, c.loop-test.false) in
-    record { labels = tt; read = ors_out (block_in (lines_of c.args.context.tokens.now) c.args.context.most) c.args.context.in_loop (c.args.context.most - c.loop.counter) c.loop.choices.items c.loop.scope c.loop.rest.at _ _ none c.loop.invariant.read }
+pub choices-returns : goal.choices-returns
+unfolding choices_mean
+choices-returns t c =
+    let l = c.loop-block in
+    let lines = lines_of c.args.context.tokens.now in
+    let in_loop = c.args.context.in_loop in
+    let none = ap (λ (bs : List BlockTree). ors_size (ors_tree bs)) (drop_of_length-le c.args.others.now
+    c.loop-block-test.false) in
+    record {
+      read = made (ors_from lines in_loop) (one_block lines in_loop) block_made blocks_made (ors_go lines in_loop) (l.scope, l.at) c.args.others.now l.block-index l.choices.items _ c.loop-block-test.false
+          l.invariant.read
+          ∙ ap (λ (b : Blocks). Ok (b, l.scope, l.at)) (all_blocks l.choices.items);
+      labels = l.invariant.grows;
+      place = omega (arith, none, l.invariant.place);
+    }
+
+pub statement-returns-in-Primitive : goal.statement-returns-in-Primitive
+statement-returns-in-Primitive t c = rw c.in-Primitive.is
+    (c.primitive_statement.ensures (lines_of c.args.context.tokens.now) c.args.context.in_loop)
+
+pub statement-returns-in-Atomic : goal.statement-returns-in-Atomic
+statement-returns-in-Atomic t c = rw (c.in-Atomic.is, ← c.as_slice.ensures)
+    (c.atomic.ensures (lines_of c.args.context.tokens.now) c.args.context.in_loop)
+
+pub statement-returns-in-Call : goal.statement-returns-in-Call
+statement-returns-in-Call t c = rw c.in-Call.is
+    (c.call_statement.ensures (lines_of c.args.context.tokens.now) c.args.context.in_loop)
+
+pub statement-returns-in-Break : goal.statement-returns-in-Break
+statement-returns-in-Break t c = rw c.in-Break.is
+    (c.break_statement.ensures (lines_of c.args.context.tokens.now) c.args.scope.now c.requires.room)
+
+pub statement-returns-in-Label : goal.statement-returns-in-Label
+statement-returns-in-Label t c = rw c.in-Label.is
+    (c.label.ensures (lines_of c.args.context.tokens.now) c.args.context.in_loop)

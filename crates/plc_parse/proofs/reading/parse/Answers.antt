@@ -1,26 +1,49 @@
-use Rattle.plc_parse.proofs.Answering.{unit_is, fault_is, no_other_fault, fits_of, named_of, sorted_of, observer_of, outline_of}
+use Rattle.std.proofs.Common.{◌≡◌, ◌∙◌, Err, length, ap, refl, arith}
+use Rattle.plc_tree.specs.declared.fault.SyntaxFault.TheVariants as syntax
+use Rattle.plc_tree.specs.FileViews.{file_tree}
+use Rattle.plc_tree.proofs.Nested.{kinds_length}
+use Rattle.plc_scope.specs.declared.fault.ParseFault.TheVariants as faults
+use Rattle.plc_parse.specs.Units.{no_file, too_deep}
+use Rattle.plc_parse.proofs.Answering.{unit_is, fault_is, no_other_fault, fits_of, named_of, sorted_of, observer_of}
+use Rattle.plc_parse.proofs.Answering.{outline_of}
+use Rattle.plc_parse.proofs.Lengths.{file_long}
 use Rattle.plc_parse.proofs.reading.parse.Goals as goal
 
-pub returns-clause-ok : goal.returns-clause-ok
-returns-clause-ok c = unit_is c.args.tokens.now c.read_file.result c.read_file.ensures c.in_ok-check_syntax.ensures.ok
+pub file_unit-requires : goal.file_unit-requires
+file_unit-requires c =
+    let long = file_long (file_tree c.in-Ok.form) in
+    let same = ap length c.in-Ok.ensures.tree in
+    let kinds = kinds_length c.args.tokens.now in
+    omega (arith, long, same, kinds, c.requires)
 
-pub returns-clause-spelled : goal.returns-clause-spelled
-returns-clause-spelled c unit is = no_other_fault c.args.tokens.now c.read_file.result unit c.read_file.ensures is
+pub returns-in-Ok : goal.returns-in-Ok
+returns-in-Ok c =
+    let tokens = c.args.tokens.now in
+    let tree = file_tree c.in-Ok.form in
+    let spelled = c.in-Ok.ensures.tree in
+    let shallow = (c.in-Ok.ensures.file.only c.in-Ok.form refl).1 in
+    let unit = c.file_unit.result in
+    let gives = c.file_unit.ensures in
+    let is = unit_is tokens tree spelled shallow unit gives in
+    record {
+      ok = is;
+      spelled = λ u other. no_other_fault tokens tree spelled shallow unit u gives other;
+      fault = fault_is tokens tree spelled shallow unit gives;
+      fits = fits_of tokens unit is;
+      named = named_of tokens unit is;
+      sorted = sorted_of tokens unit is;
+      observer = observer_of tokens unit is;
+      outline = outline_of tokens unit is;
+    }
 
-pub returns-clause-fault : goal.returns-clause-fault
-returns-clause-fault c = fault_is c.args.tokens.now c.read_file.result c.read_file.ensures c.in_ok-check_syntax.ensures.ok
+pub returns-in-Err-Syntax-clause-fault : goal.returns-in-Err-Syntax-clause-fault
+returns-in-Err-Syntax-clause-fault c =
+    let was : c.file_tree.result ≡ Err (syntax.Syntax c.in-Err-Syntax.at) =
+    c.in-Err-Syntax.is ∙ ap Err c.in-Err-Syntax.field-0-is in
+    no_file c.in-Err-Syntax.at (ap faults.Syntax c.in-Err-Syntax.at-is) ((c.file_tree.ensures.syntax c.in-Err-Syntax.at).only was)
 
-pub returns-clause-fits : goal.returns-clause-fits
-returns-clause-fits c = fits_of c.args.tokens.now c.read_file.result (unit_is c.args.tokens.now c.read_file.result c.read_file.ensures c.in_ok-check_syntax.ensures.ok)
-
-pub returns-clause-named : goal.returns-clause-named
-returns-clause-named c = named_of c.args.tokens.now c.read_file.result (unit_is c.args.tokens.now c.read_file.result c.read_file.ensures c.in_ok-check_syntax.ensures.ok)
-
-pub returns-clause-sorted : goal.returns-clause-sorted
-returns-clause-sorted c = sorted_of c.args.tokens.now c.read_file.result (unit_is c.args.tokens.now c.read_file.result c.read_file.ensures c.in_ok-check_syntax.ensures.ok)
-
-pub returns-clause-observer : goal.returns-clause-observer
-returns-clause-observer c = observer_of c.args.tokens.now c.read_file.result (unit_is c.args.tokens.now c.read_file.result c.read_file.ensures c.in_ok-check_syntax.ensures.ok)
-
-pub returns-clause-outline : goal.returns-clause-outline
-returns-clause-outline c = outline_of c.args.tokens.now c.read_file.result (unit_is c.args.tokens.now c.read_file.result c.read_file.ensures c.in_ok-check_syntax.ensures.ok)
+pub returns-in-Err-Nesting-clause-fault : goal.returns-in-Err-Nesting-clause-fault
+returns-in-Err-Nesting-clause-fault c =
+    let was : c.file_tree.result ≡ Err (syntax.Nesting c.in-Err-Nesting.field-0-0) =
+    c.in-Err-Nesting.is ∙ ap Err c.in-Err-Nesting.field-0-is in
+    too_deep c.in-Err-Nesting.field-0-0 c.past.ensures ((c.file_tree.ensures.nesting c.in-Err-Nesting.field-0-0).only was)

@@ -1,7 +1,7 @@
 use Rattle.std.proofs.Common.{rules, Some, Ok, sym, subst}
 use Rattle.plc_scope.specs.declared.fault.ParseFault.{ParseFault}
 use Rattle.plc_scope.specs.Answers.{FailsAs}
-use Rattle.plc_parse.specs.Reading.{with_form}
+use Rattle.plc_parse.specs.Views.{with_form}
 use Rattle.plc_parse.proofs.step.Step.push.Goals as goal
 
 pub returns-then-is_new : goal.returns-then-is_new

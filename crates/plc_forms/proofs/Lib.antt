@@ -1,2 +1,0 @@
-pub mod FormsOfTrees
-pub mod Shrinks

@@ -1,0 +1,381 @@
+-- The law of each form that holds no list, by its reader's shape: what is read of it are the tokens of its tree, or the
+-- beginning of one.
+use Rattle.std.proofs.Common.{ℕ, Bool, true, Option, None, [], ◌∷◌, refl}
+use Rattle.plc_lex.specs.declared.token.TokenKind.{TokenKind}
+use Rattle.plc_lex.specs.declared.token.TokenKind.TheVariants.{Word, Name, Number, Symbol}
+use Rattle.plc_lex.specs.declared.token.Keyword.TheVariants.{Ptr, Data, Shared, Call, Use, Hazard, Epoch, Ghost, Skip}
+use Rattle.plc_lex.specs.declared.token.Keyword.TheVariants.{Or, During, Active, Assume, New, Null, Cas, Depth, All}
+use Rattle.plc_lex.specs.declared.token.Keyword.TheVariants.{Not, Retired, Me, None as NoneWord, Mark, Unmark, Marked}
+use Rattle.plc_lex.specs.declared.token.Keyword.TheVariants.{Unmarked}
+use Rattle.plc_lex.specs.declared.token.Symbol.TheVariants.{Assign, Refresh, Equal, Unequal, AtLeast, OpenParen}
+use Rattle.plc_lex.specs.declared.token.Symbol.TheVariants.{CloseParen, Semicolon, Comma, Dot, Colon, Less}
+use Rattle.plc_syntax.specs.Trees as trees
+use Rattle.plc_syntax.specs.Trees.{Text, maybe_then, word_if_then}
+use Rattle.plc_syntax.specs.Forms as forms
+use Rattle.plc_syntax.proofs.Combinators.{Spells, same, Law, Choice, takes, leaves, last, fault, led_law, then_form}
+use Rattle.plc_syntax.proofs.Combinators.{then_whole, within, then_symbol, then_word, a_name, a_name_fits, name_law}
+use Rattle.plc_syntax.proofs.Combinators.{number_law}
+
+-- ---- places and values
+
+dot_choice : {n : ℕ} (k : Text) (t : TokenKind)
+    → Choice n trees.place_then (λ q. Name k ∷ q) (λ m. forms.dot_next k) t
+dot_choice k (Symbol Dot) = takes _ (λ m. refl) (then_form name_law (λ f. last (λ q. refl)))
+dot_choice k _ = leaves (λ m. refl)
+
+place_of_name_law : {n : ℕ} (k : Text)
+    → Law n trees.place_then (λ q. Name k ∷ q) (λ m at ts. forms.place_of_name k at ts)
+place_of_name_law k = led_law (dot_choice k) (last (λ q. refl))
+
+place_law : {n : ℕ} → Law n trees.place_then same (λ m at ts. forms.place_of at ts)
+place_law = then_form name_law (λ k. place_of_name_law k)
+
+value_choice : {n : ℕ} (t : TokenKind) → Choice n trees.value_then same (λ m. forms.value_next) t
+value_choice (Word Null) = takes _ (λ m. refl) (last (λ q. refl))
+value_choice (Word New) = takes _ (λ m. refl) (last (λ q. refl))
+value_choice (Number k) = takes _ (λ m. refl) (last (λ q. refl))
+value_choice (Word Mark) = takes _ (λ m. refl) (then_form name_law (λ k. last (λ q. refl)))
+value_choice (Word Unmark) = takes _ (λ m. refl) (then_form name_law (λ k. last (λ q. refl)))
+value_choice (Name k) = takes _ (λ m. refl) (then_whole (place_of_name_law k) (λ p. last (λ q. refl)))
+value_choice _ = leaves (λ m. refl)
+
+value_law : {n : ℕ} → Law n trees.value_then same (λ m at ts. forms.value_of at ts)
+value_law = led_law value_choice (fault trees.NullValue (Word Null ∷ []) (tt, tt) (λ q. refl))
+
+atom_choice : {n : ℕ} (t : TokenKind) → Choice n trees.atom_then same (λ m. forms.atom_next) t
+atom_choice (Word Null) = takes _ (λ m. refl) (last (λ q. refl))
+atom_choice (Number k) = takes _ (λ m. refl) (last (λ q. refl))
+atom_choice (Name k) = takes _ (λ m. refl) (last (λ q. refl))
+atom_choice _ = leaves (λ m. refl)
+
+atom_law : {n : ℕ} → Law n trees.atom_then same (λ m at ts. forms.atom_of at ts)
+atom_law = led_law atom_choice (fault trees.NullAtom (Word Null ∷ []) (tt, tt) (λ q. refl))
+
+ghost_value_choice : {n : ℕ} (t : TokenKind) → Choice n trees.ghost_value_then same (λ m. forms.ghost_value_next) t
+ghost_value_choice (Name k) = takes _ (λ m. refl) (last (λ q. refl))
+ghost_value_choice (Word Me) = takes _ (λ m. refl) (last (λ q. refl))
+ghost_value_choice (Word NoneWord) = takes _ (λ m. refl) (last (λ q. refl))
+ghost_value_choice _ = leaves (λ m. refl)
+
+ghost_value_law : {n : ℕ} → Law n trees.ghost_value_then same (λ m at ts. forms.ghost_value_of at ts)
+ghost_value_law = led_law ghost_value_choice (fault trees.MeGhost (Word Me ∷ []) (tt, tt) (λ q. refl))
+
+-- ---- tests and conditions
+
+abbrev comparison_then : Spells trees.Comparison
+comparison_then c q = Symbol (trees.comparison_symbol c) ∷ q
+
+comparison_choice : {n : ℕ} (t : TokenKind) → Choice n comparison_then same (λ m. forms.comparison_next) t
+comparison_choice (Symbol Equal) = takes _ (λ m. refl) (last (λ q. refl))
+comparison_choice (Symbol Unequal) = takes _ (λ m. refl) (last (λ q. refl))
+comparison_choice (Symbol Less) = takes _ (λ m. refl) (last (λ q. refl))
+comparison_choice (Symbol AtLeast) = takes _ (λ m. refl) (last (λ q. refl))
+comparison_choice _ = leaves (λ m. refl)
+
+comparison_law : {n : ℕ} → Law n comparison_then same (λ m at ts. forms.comparison_of at ts)
+comparison_law = led_law comparison_choice (fault trees.SameAs (Symbol Equal ∷ []) (tt, tt) (λ q. refl))
+
+compared_law : {n : ℕ} (k : Text) → Law n trees.test_then (λ q. Name k ∷ q) (λ m at ts. forms.compared_of k at ts)
+compared_law k = then_form comparison_law (λ c. then_form atom_law (λ a. last (λ q. refl)))
+
+test_choice : {n : ℕ} (t : TokenKind) → Choice n trees.test_then same (λ m. forms.test_next) t
+test_choice (Word Marked) = takes _ (λ m. refl) (then_form name_law (λ k. last (λ q. refl)))
+test_choice (Word Unmarked) = takes _ (λ m. refl) (then_form name_law (λ k. last (λ q. refl)))
+test_choice (Name k) = takes _ (λ m. refl) (compared_law k)
+test_choice _ = leaves (λ m. refl)
+
+test_law : {n : ℕ} → Law n trees.test_then same (λ m at ts. forms.test_of at ts)
+test_law = led_law test_choice
+    (fault (trees.MarkedTest a_name) (Word Marked ∷ Name a_name ∷ []) (tt, (a_name_fits, tt)) (λ q. refl))
+
+name_or_null_choice : {n : ℕ} (t : TokenKind)
+    → Choice n trees.name_or_null_then same (λ m. forms.name_or_null_next) t
+name_or_null_choice (Name k) = takes _ (λ m. refl) (last (λ q. refl))
+name_or_null_choice (Word Null) = takes _ (λ m. refl) (last (λ q. refl))
+name_or_null_choice _ = leaves (λ m. refl)
+
+name_or_null_law : {n : ℕ} → Law n trees.name_or_null_then same (λ m at ts. forms.name_or_null_of at ts)
+name_or_null_law = led_law name_or_null_choice (fault None (Word Null ∷ []) (tt, tt) (λ q. refl))
+
+abbrev active_then : Spells Bool
+active_then w q = word_if_then Active w q
+
+active_choice : {n : ℕ} (t : TokenKind) → Choice n active_then same (λ m. forms.active_next) t
+active_choice (Word Active) = takes _ (λ m. refl) (last (λ q. refl))
+active_choice _ = leaves (λ m. refl)
+
+active_law : {n : ℕ} → Law n active_then same (λ m at ts. forms.active_word_of at ts)
+active_law = led_law active_choice (last (λ q. refl))
+
+cas_law : {n : ℕ} (w : Bool)
+    → Law n trees.condition_then (λ q. Word Cas ∷ Symbol OpenParen ∷ active_then w q) (λ m at ts. forms.cas_of w at ts)
+cas_law w = then_form name_law (λ k. then_symbol Comma (then_form name_or_null_law (λ old.
+    then_symbol Comma (then_form name_or_null_law (λ new. then_symbol CloseParen (last (λ q. refl)))))))
+
+cas_condition_law : {n : ℕ}
+    → Law n trees.condition_then (λ q. Word Cas ∷ q) (λ m at ts. forms.cas_condition_of at ts)
+cas_condition_law = then_symbol OpenParen (then_form active_law (λ w. cas_law w))
+
+named_condition_choice : {n : ℕ} (k : Text) (t : TokenKind)
+    → Choice n trees.condition_then (λ q. Name k ∷ q) (λ m. forms.named_condition_next k) t
+named_condition_choice k (Symbol Refresh) = takes _ (λ m. refl) (then_form place_law (λ p. last (λ q. refl)))
+named_condition_choice k _ = leaves (λ m. refl)
+
+named_condition_law : {n : ℕ} (k : Text)
+    → Law n trees.condition_then (λ q. Name k ∷ q) (λ m at ts. forms.named_condition_of k at ts)
+named_condition_law k = led_law (named_condition_choice k) (then_whole (compared_law k) (λ t. last (λ q. refl)))
+
+condition_choice : {n : ℕ} (t : TokenKind) → Choice n trees.condition_then same (λ m. forms.condition_next) t
+condition_choice (Word Cas) = takes _ (λ m. refl) cas_condition_law
+condition_choice (Name k) = takes _ (λ m. refl) (named_condition_law k)
+condition_choice _ = leaves (λ m. refl)
+
+pub condition_law : {n : ℕ} → Law n trees.condition_then same (λ m at ts. forms.condition_of at ts)
+condition_law = led_law condition_choice (then_form test_law (λ t. last (λ q. refl)))
+
+-- ---- primitives
+
+field_tail_choice : {n : ℕ} (k f : Text) (t : TokenKind)
+    → Choice n trees.primitive_then (λ q. Name k ∷ Symbol Dot ∷ Name f ∷ q) (λ m. forms.field_tail_next k f) t
+field_tail_choice k f (Symbol Assign) = takes _ (λ m. refl) (then_form atom_law (λ a. last (λ q. refl)))
+field_tail_choice k f (Symbol Refresh) = takes _ (λ m. refl) (then_form name_law (λ a. last (λ q. refl)))
+field_tail_choice k f _ = leaves (λ m. refl)
+
+field_tail_law : {n : ℕ} (k f : Text) → Law n trees.primitive_then (λ q. Name k ∷ Symbol Dot ∷ Name f ∷ q)
+    (λ m at ts. forms.field_tail_of k f at ts)
+field_tail_law k f = led_law (field_tail_choice k f)
+    (fault (trees.SetPrimitive (trees.SetField k f trees.NullAtom)) (Symbol Assign ∷ Word Null ∷ []) (tt, (tt, tt))
+    (λ q. refl))
+
+named_tail_choice : {n : ℕ} (k : Text) (t : TokenKind)
+    → Choice n trees.primitive_then (λ q. Name k ∷ q) (λ m. forms.named_tail_next k) t
+named_tail_choice k (Symbol Assign) = takes _ (λ m. refl) (then_form value_law (λ v. last (λ q. refl)))
+named_tail_choice k (Symbol Refresh) = takes _ (λ m. refl) (then_form place_law (λ p. last (λ q. refl)))
+named_tail_choice k (Symbol Dot) = takes _ (λ m. refl) (then_form name_law (λ f. field_tail_law k f))
+named_tail_choice k _ = leaves (λ m. refl)
+
+pub named_tail_law : {n : ℕ} (k : Text)
+    → Law n trees.primitive_then (λ q. Name k ∷ q) (λ m at ts. forms.named_tail_of k at ts)
+named_tail_law k = led_law (named_tail_choice k)
+    (fault (trees.SetPrimitive (trees.SetName k trees.NullValue)) (Symbol Assign ∷ Word Null ∷ []) (tt, (tt, tt))
+    (λ q. refl))
+
+ghost_set_law : {n : ℕ} → Law n trees.ghost_set_then (λ q. Word Ghost ∷ q) (λ m at ts. forms.ghost_set_of at ts)
+ghost_set_law = then_form name_law (λ k. then_symbol Dot (then_form name_law (λ g.
+    then_symbol Assign (then_form ghost_value_law (λ v. last (λ q. refl))))))
+
+primitive_choice : {n : ℕ} (t : TokenKind) → Choice n trees.primitive_then same (λ m. forms.primitive_next) t
+primitive_choice (Name k) = takes _ (λ m. refl) (named_tail_law k)
+primitive_choice (Word Ghost) = takes _ (λ m. refl) (then_whole ghost_set_law (λ g. last (λ q. refl)))
+primitive_choice (Word Active) = takes _ (λ m. refl) (then_form name_law (λ k. last (λ q. refl)))
+primitive_choice (Word Assume) = takes _ (λ m. refl) (then_form test_law (λ t. last (λ q. refl)))
+primitive_choice (Word Skip) = takes _ (λ m. refl) (last (λ q. refl))
+primitive_choice _ = leaves (λ m. refl)
+
+primitive_law : {n : ℕ} → Law n trees.primitive_then same (λ m at ts. forms.primitive_of at ts)
+primitive_law = led_law primitive_choice (fault trees.SkipPrimitive (Word Skip ∷ []) (tt, tt) (λ q. refl))
+
+pub primitive_line_law : (n : ℕ) → Law n trees.primitive_line_then same (λ m at ts. forms.primitive_line_of at ts)
+primitive_line_law n = then_form primitive_law (λ p. then_symbol Semicolon (last (λ q. refl)))
+
+-- ---- the assignments of `init`
+
+set_field_law : {n : ℕ} (k f : Text) → Law n trees.set_then (λ q. Name k ∷ Symbol Dot ∷ Name f ∷ q)
+    (λ m at ts. forms.set_field_of k f at ts)
+set_field_law k f = then_symbol Assign (then_form atom_law (λ a. last (λ q. refl)))
+
+set_choice : {n : ℕ} (k : Text) (t : TokenKind) → Choice n trees.set_then (λ q. Name k ∷ q) (λ m. forms.set_next k) t
+set_choice k (Symbol Assign) = takes _ (λ m. refl) (then_form value_law (λ v. last (λ q. refl)))
+set_choice k (Symbol Dot) = takes _ (λ m. refl) (then_form name_law (λ f. set_field_law k f))
+set_choice k _ = leaves (λ m. refl)
+
+set_law : {n : ℕ} (k : Text) → Law n trees.set_then (λ q. Name k ∷ q) (λ m at ts. forms.set_of_name k at ts)
+set_law k = led_law (set_choice k)
+    (fault (trees.SetName k trees.NullValue) (Symbol Assign ∷ Word Null ∷ []) (tt, (tt, tt)) (λ q. refl))
+
+initial_choice : {n : ℕ} (t : TokenKind) → Choice n trees.initial_then same (λ m. forms.initial_next) t
+initial_choice (Name k) = takes _ (λ m. refl) (then_whole (set_law k) (λ s. then_symbol Semicolon (last (λ q. refl))))
+initial_choice (Word Ghost) =
+    takes _ (λ m. refl) (then_whole ghost_set_law (λ g. then_symbol Semicolon (last (λ q. refl))))
+initial_choice _ = leaves (λ m. refl)
+
+pub initial_law : (n : ℕ) → Law n trees.initial_then same (λ m at ts. forms.initial_of at ts)
+initial_law n = led_law initial_choice
+    (fault (trees.InitialSet (trees.SetName a_name trees.NullValue))
+    (Name a_name ∷ Symbol Assign ∷ Word Null ∷ Symbol Semicolon ∷ []) (a_name_fits, (tt, (tt, (tt, tt)))) (λ q. refl))
+
+-- ---- calls
+
+argument_choice : {n : ℕ} (t : TokenKind) → Choice n trees.argument_then same (λ m. forms.argument_next) t
+argument_choice (Word Null) = takes _ (λ m. refl) (last (λ q. refl))
+argument_choice (Name k) = takes _ (λ m. refl) (last (λ q. refl))
+argument_choice (Word Active) = takes _ (λ m. refl) (then_form name_law (λ k. last (λ q. refl)))
+argument_choice _ = leaves (λ m. refl)
+
+pub argument_law : {n : ℕ} → Law n trees.argument_then same (λ m at ts. forms.argument_of at ts)
+argument_law = led_law argument_choice (last (λ q. refl))
+
+abbrev pub label_then : Spells (Option Text)
+label_then d q = maybe_then trees.during_then d q
+
+during_choice : {n : ℕ} (t : TokenKind) → Choice n label_then same (λ m. forms.during_next) t
+during_choice (Word During) = takes _ (λ m. refl) (then_form name_law (λ k. last (λ q. refl)))
+during_choice _ = leaves (λ m. refl)
+
+pub during_law : {n : ℕ} → Law n label_then same (λ m at ts. forms.during_of at ts)
+during_law = led_law during_choice (last (λ q. refl))
+
+-- ---- names after a comma
+
+comma_name_choice : {n : ℕ} (t : TokenKind) → Choice n trees.comma_name_then same (λ m. forms.comma_name_next) t
+comma_name_choice (Symbol Comma) = takes _ (λ m. refl) (within (λ q. Symbol Comma ∷ q) name_law)
+comma_name_choice _ = leaves (λ m. refl)
+
+pub comma_name_law : (n : ℕ) → Law n trees.comma_name_then same (λ m at ts. forms.comma_name_of at ts)
+comma_name_law n = led_law comma_name_choice
+    (fault a_name (Symbol Comma ∷ Name a_name ∷ []) (tt, (a_name_fits, tt)) (λ q. refl))
+
+-- ---- declarations
+
+field_choice : {n : ℕ} (t : TokenKind) → Choice n trees.field_then same (λ m. forms.field_next) t
+field_choice (Word Ptr) = takes _ (λ m. refl) (then_form name_law (λ k. then_symbol Semicolon (last (λ q. refl))))
+field_choice (Word Data) = takes _ (λ m. refl) (then_form name_law (λ k. then_symbol Semicolon (last (λ q. refl))))
+field_choice _ = leaves (λ m. refl)
+
+pub field_law : (n : ℕ) → Law n trees.field_then same (λ m at ts. forms.field_of at ts)
+field_law n = led_law field_choice
+    (fault (trees.PointerField a_name) (Word Ptr ∷ Name a_name ∷ Symbol Semicolon ∷ [])
+    (tt, (a_name_fits, (tt, tt))) (λ q. refl))
+
+pub shared_law : (n : ℕ) → Law n trees.shared_then same (λ m at ts. forms.shared_of at ts)
+shared_law n = then_word Shared (then_form name_law (λ k. then_symbol Semicolon (last (λ q. refl))))
+
+abbrev pointer_then : Spells Bool
+pointer_then w q = word_if_then Ptr w q
+
+pointer_choice : {n : ℕ} (t : TokenKind) → Choice n pointer_then same (λ m. forms.pointer_next) t
+pointer_choice (Word Ptr) = takes _ (λ m. refl) (last (λ q. refl))
+pointer_choice _ = leaves (λ m. refl)
+
+pointer_word_law : {n : ℕ} → Law n pointer_then same (λ m at ts. forms.pointer_word_of at ts)
+pointer_word_law = led_law pointer_choice (last (λ q. refl))
+
+pub function_law : (n : ℕ) → Law n trees.function_then same (λ m at ts. forms.function_of at ts)
+function_law n = then_word Call (then_form name_law (λ k. then_symbol OpenParen (then_form pointer_word_law (λ w.
+    then_symbol CloseParen (then_symbol Semicolon (last (λ q. refl)))))))
+
+hazard_law : {n : ℕ} → Law n trees.scheme_then (λ q. Word Hazard ∷ q) (λ m at ts. forms.hazard_of at ts)
+hazard_law = then_symbol OpenParen (then_form name_law (λ f. then_symbol CloseParen (then_symbol Semicolon
+    (last (λ q. refl)))))
+
+epoch_law : {n : ℕ} → Law n trees.scheme_then (λ q. Word Epoch ∷ q) (λ m at ts. forms.epoch_of at ts)
+epoch_law = then_symbol OpenParen (then_form name_law (λ e. then_symbol Comma (then_form name_law (λ l.
+    then_symbol CloseParen (then_symbol Semicolon (last (λ q. refl)))))))
+
+scheme_choice : {n : ℕ} (t : TokenKind) → Choice n trees.scheme_then same (λ m. forms.scheme_next) t
+scheme_choice (Word Hazard) = takes _ (λ m. refl) hazard_law
+scheme_choice (Word Epoch) = takes _ (λ m. refl) epoch_law
+scheme_choice _ = leaves (λ m. refl)
+
+scheme_law : {n : ℕ} → Law n trees.scheme_then same (λ m at ts. forms.scheme_of at ts)
+scheme_law = led_law scheme_choice
+    (fault (trees.UseHazard a_name)
+    (Word Hazard ∷ Symbol OpenParen ∷ Name a_name ∷ Symbol CloseParen ∷ Symbol Semicolon ∷ [])
+    (tt, (tt, (a_name_fits, (tt, (tt, tt))))) (λ q. refl))
+
+abbrev pub watched_then : Spells (Option trees.WatchTree)
+watched_then w q = maybe_then trees.watch_then w q
+
+watch_choice : {n : ℕ} (t : TokenKind) → Choice n watched_then same (λ m. forms.watch_next) t
+watch_choice (Word Use) = takes _ (λ m. refl) (then_form scheme_law (λ w. last (λ q. refl)))
+watch_choice _ = leaves (λ m. refl)
+
+pub watch_law : {n : ℕ} → Law n watched_then same (λ m at ts. forms.watch_of at ts)
+watch_law = led_law watch_choice (last (λ q. refl))
+
+-- ---- clauses of an outline
+
+term_choice : {n : ℕ} (t : TokenKind) → Choice n trees.term_then same (λ m. forms.term_next) t
+term_choice (Word Null) = takes _ (λ m. refl) (last (λ q. refl))
+term_choice (Number k) = takes _ (λ m. refl) (last (λ q. refl))
+term_choice (Word Me) = takes _ (λ m. refl) (last (λ q. refl))
+term_choice (Word NoneWord) = takes _ (λ m. refl) (last (λ q. refl))
+term_choice (Name k) = takes _ (λ m. refl) (then_whole (place_of_name_law k) (λ p. last (λ q. refl)))
+term_choice _ = leaves (λ m. refl)
+
+term_law : {n : ℕ} → Law n trees.term_then same (λ m at ts. forms.term_of at ts)
+term_law = led_law term_choice (fault trees.NullTerm (Word Null ∷ []) (tt, tt) (λ q. refl))
+
+abbrev equality_then : Spells Bool
+equality_then e q = Symbol (trees.equality_symbol e) ∷ q
+
+equality_choice : {n : ℕ} (t : TokenKind) → Choice n equality_then same (λ m. forms.equality_next) t
+equality_choice (Symbol Equal) = takes _ (λ m. refl) (last (λ q. refl))
+equality_choice (Symbol Unequal) = takes _ (λ m. refl) (last (λ q. refl))
+equality_choice _ = leaves (λ m. refl)
+
+equality_law : {n : ℕ} → Law n equality_then same (λ m at ts. forms.equality_of at ts)
+equality_law = led_law equality_choice (fault true (Symbol Equal ∷ []) (tt, tt) (λ q. refl))
+
+retired_law : {n : ℕ} → Law n trees.flag_then (λ q. Word Retired ∷ q) (λ m at ts. forms.retired_of at ts)
+retired_law = then_symbol OpenParen (then_form name_law (λ k. then_symbol CloseParen (last (λ q. refl))))
+
+marked_law : {n : ℕ} → Law n trees.flag_then (λ q. Word Marked ∷ q) (λ m at ts. forms.marked_of at ts)
+marked_law = then_symbol OpenParen (then_form place_law (λ p. then_symbol CloseParen (last (λ q. refl))))
+
+flag_choice : {n : ℕ} (t : TokenKind) → Choice n trees.flag_then same (λ m. forms.flag_next) t
+flag_choice (Word Retired) = takes _ (λ m. refl) retired_law
+flag_choice (Word Marked) = takes _ (λ m. refl) marked_law
+flag_choice _ = leaves (λ m. refl)
+
+flag_law : {n : ℕ} → Law n trees.flag_then same (λ m at ts. forms.flag_of at ts)
+flag_law = led_law flag_choice
+    (fault (trees.RetiredFlag a_name) (Word Retired ∷ Symbol OpenParen ∷ Name a_name ∷ Symbol CloseParen ∷ [])
+    (tt, (tt, (a_name_fits, (tt, tt)))) (λ q. refl))
+
+equation_law : {n : ℕ} → Law n trees.literal_then same (λ m at ts. forms.equation_of at ts)
+equation_law = then_form term_law (λ a. then_form equality_law (λ e. then_form term_law (λ b. last (λ q. refl))))
+
+literal_choice : {n : ℕ} (t : TokenKind) → Choice n trees.literal_then same (λ m. forms.literal_next) t
+literal_choice (Word Not) = takes _ (λ m. refl) (then_form flag_law (λ f. last (λ q. refl)))
+literal_choice (Word Retired) = takes _ (λ m. refl) (then_whole retired_law (λ f. last (λ q. refl)))
+literal_choice (Word Marked) = takes _ (λ m. refl) (then_whole marked_law (λ f. last (λ q. refl)))
+literal_choice _ = leaves (λ m. refl)
+
+pub literal_law : {n : ℕ} → Law n trees.literal_then same (λ m at ts. forms.literal_of at ts)
+literal_law = led_law literal_choice equation_law
+
+pub or_literal_law : (n : ℕ) → Law n trees.or_literal_then same (λ m at ts. forms.or_literal_of at ts)
+or_literal_law n = then_word Or (within (λ q. Word Or ∷ q) literal_law)
+
+abbrev second_then : Spells (Option Text)
+second_then k q = maybe_then trees.comma_name_then k q
+
+second_choice : {n : ℕ} (t : TokenKind) → Choice n second_then same (λ m. forms.second_next) t
+second_choice (Symbol Comma) = takes _ (λ m. refl) (then_form name_law (λ k. last (λ q. refl)))
+second_choice _ = leaves (λ m. refl)
+
+second_law : {n : ℕ} → Law n second_then same (λ m at ts. forms.second_of at ts)
+second_law = led_law second_choice (last (λ q. refl))
+
+all_law : {n : ℕ} → Law n trees.bound_then (λ q. Word All ∷ q) (λ m at ts. forms.all_of at ts)
+all_law = then_form name_law (λ k. then_form second_law (λ j. then_symbol Colon (last (λ q. refl))))
+
+bound_choice : {n : ℕ} (t : TokenKind) → Choice n trees.bound_then same (λ m. forms.bound_next) t
+bound_choice (Word All) = takes _ (λ m. refl) all_law
+bound_choice _ = leaves (λ m. refl)
+
+pub bound_law : {n : ℕ} → Law n trees.bound_then same (λ m at ts. forms.bound_of at ts)
+bound_law = led_law bound_choice (last (λ q. refl))
+
+-- ---- the depth of an outline
+
+abbrev pub depth_then : Spells (Option ℕ)
+depth_then d q = maybe_then trees.depth_then d q
+
+depth_choice : {n : ℕ} (t : TokenKind) → Choice n depth_then same (λ m. forms.depth_next) t
+depth_choice (Word Depth) = takes _ (λ m. refl) (then_form number_law (λ d. then_symbol Semicolon (last (λ q. refl))))
+depth_choice _ = leaves (λ m. refl)
+
+pub depth_law : {n : ℕ} → Law n depth_then same (λ m at ts. forms.depth_of at ts)
+depth_law = led_law depth_choice (last (λ q. refl))

@@ -1,0 +1,460 @@
+-- What is read at the front of tokens: a tree, the place after it and the tokens from there on, or the place of the
+-- first token that doesn't fit. Each form decides by its first token. A list is read for `plc_tree`, whose forms
+-- hold them: a number ends its recursion, and makes no difference where it is above that of the tokens.
+use Rattle.std.specs.Prelude.{ℕ, ◌+◌, zero, suc, Bool, true, false, cond, if◌then◌else◌, Option, Some, None, List, []}
+use Rattle.std.specs.Prelude.{◌∷◌, Result, Ok, Err}
+use denote.Enum.Bare.{sameb}
+use Rattle.plc_lex.specs.contracts.token.Symbol as punctuation
+use Rattle.plc_lex.specs.contracts.token.Keyword as keyword
+use Rattle.plc_lex.specs.declared.token.TokenKind.{TokenKind}
+use Rattle.plc_lex.specs.declared.token.TokenKind.TheVariants.{Word, Name, Number, Symbol}
+use Rattle.plc_lex.specs.declared.token.Keyword.{Keyword}
+use Rattle.plc_lex.specs.declared.token.Keyword.TheVariants.{Ptr, Data, Shared, Call, Use, Hazard, Epoch, Ghost, Skip}
+use Rattle.plc_lex.specs.declared.token.Keyword.TheVariants.{Or, During, Active, Assume, New, Null, Cas, Depth, All}
+use Rattle.plc_lex.specs.declared.token.Keyword.TheVariants.{Not, Retired, Me, None as NoneWord, Mark, Unmark, Marked}
+use Rattle.plc_lex.specs.declared.token.Keyword.TheVariants.{Unmarked}
+use Rattle.plc_lex.specs.declared.token.Symbol.{Symbol as Punctuation}
+use Rattle.plc_lex.specs.declared.token.Symbol.TheVariants.{Assign, Refresh, Equal, Unequal, AtLeast, OpenParen}
+use Rattle.plc_lex.specs.declared.token.Symbol.TheVariants.{CloseParen, Semicolon, Comma, Dot, Colon, Less}
+use Rattle.plc_syntax.specs.Trees.{Text, FieldTree, PointerField, DataField, FunctionTree, Declares, WatchTree}
+use Rattle.plc_syntax.specs.Trees.{UseHazard, UseEpoch, PlaceTree, PlaceOf, AtomTree, NullAtom, NumberAtom, NameAtom}
+use Rattle.plc_syntax.specs.Trees.{ValueTree, NullValue, NewValue, NumberValue, MarkValue, UnmarkValue, PlaceValue}
+use Rattle.plc_syntax.specs.Trees.{SetTree, SetName, SetField, RefreshName, RefreshField, GhostValueTree, NameGhost}
+use Rattle.plc_syntax.specs.Trees.{MeGhost, NoneGhost, GhostSetTree, SetGhost, InitialTree, InitialSet, InitialGhost}
+use Rattle.plc_syntax.specs.Trees.{Comparison, SameAs, OtherThan, LessThan, NotLessThan, TestTree, MarkedTest}
+use Rattle.plc_syntax.specs.Trees.{UnmarkedTest, Compares, ConditionTree, TestCondition, RefreshCondition, CasCondition}
+use Rattle.plc_syntax.specs.Trees.{PrimitiveTree, SetPrimitive, RefreshPrimitive, GhostPrimitive, ActivePrimitive}
+use Rattle.plc_syntax.specs.Trees.{AssumePrimitive, SkipPrimitive, ArgumentTree, NoArgument, NullArgument, NameArgument}
+use Rattle.plc_syntax.specs.Trees.{ActiveArgument, TermTree, PlaceTerm, NullTerm, NumberTerm, MeTerm, NoneTerm}
+use Rattle.plc_syntax.specs.Trees.{FlagTree, RetiredFlag, MarkedFlag, LiteralTree, FlagLiteral, NotLiteral}
+use Rattle.plc_syntax.specs.Trees.{EqualityLiteral, BoundTree, NoBound, AllOf}
+
+-- what was read, the place after it and the tokens from there on, or the place of the fault
+abbrev pub Read : Type 0 → Type 0
+Read X = Result (X × ℕ × List TokenKind) ℕ
+
+-- a place and the tokens from there on, or the place of the fault
+abbrev pub Pass : Type 0
+Pass = Result (ℕ × List TokenKind) ℕ
+
+infixl 10 ◌>>=◌
+-- what is read after what was read, if no fault came
+abbrev pub ◌>>=◌ : {A B : Type 0} → Read A → (A → ℕ → List TokenKind → Read B) → Read B
+(Ok x) >>= next = next x.0 x.1 x.2
+(Err at) >>= next = Err at
+
+infixl 10 ◌>>◌
+-- what is read after a token that was passed
+abbrev pub ◌>>◌ : {B : Type 0} → Pass → (ℕ → List TokenKind → Read B) → Read B
+(Ok a) >> next = next a.0 a.1
+(Err at) >> next = Err at
+
+-- what is read after a first token, none where the token doesn't begin it
+abbrev pub Next : Type 0 → Type 0
+Next X = TokenKind → Option (ℕ → List TokenKind → Read X)
+
+-- what is read after the first token, and something else where it begins nothing
+abbrev pub chosen : {X : Type 0} → Option (ℕ → List TokenKind → Read X) → Read X → ℕ → List TokenKind → Read X
+chosen None other at ts = other
+chosen (Some next) other at ts = next at ts
+
+-- what the first token decides, and something else where there is none or it begins nothing
+abbrev pub led : {X : Type 0} → Next X → Read X → ℕ → List TokenKind → Read X
+led next other at [] = other
+led next other at (t ∷ ts) = chosen (next t) other (at + 1) ts
+
+-- the first token alone is read
+abbrev pub alone : {X : Type 0} → X → Option (ℕ → List TokenKind → Read X)
+alone x = Some (λ at ts. Ok (x, at, ts))
+
+-- whether a first token is one of those that begin something
+abbrev pub first_is : (TokenKind → Bool) → List TokenKind → Bool
+first_is begins [] = false
+first_is begins (t ∷ ts) = begins t
+
+-- items while one begins; at most so many
+unfoldable pub list_of : {X : Type 0} → (TokenKind → Bool) → (ℕ → ℕ → List TokenKind → Read X) → ℕ → ℕ
+    → List TokenKind → Read (List X)
+list_of begins item zero at ts = Err at
+list_of begins item (suc n) at ts = cond (first_is begins ts)
+    (item n at ts >>= λ x at ts. list_of begins item n at ts >>= λ xs at ts. Ok (x ∷ xs, at, ts)) (Ok ([], at, ts))
+
+-- ---- single tokens
+
+abbrev pub word_of : Keyword → ℕ → List TokenKind → Pass
+word_of word at (Word found ∷ ts) = if sameb keyword.the_type found word then Ok (at + 1, ts) else Err at
+word_of word at ts = Err at
+
+abbrev pub symbol_of : Punctuation → ℕ → List TokenKind → Pass
+symbol_of symbol at (Symbol found ∷ ts) = if sameb punctuation.the_type found symbol then Ok (at + 1, ts) else Err at
+symbol_of symbol at ts = Err at
+
+abbrev pub name_next : Next Text
+name_next (Name n) = alone n
+name_next _ = None
+
+abbrev pub name_of : ℕ → List TokenKind → Read Text
+name_of at ts = led name_next (Err at) at ts
+
+abbrev pub number_next : Next ℕ
+number_next (Number n) = alone n
+number_next _ = None
+
+abbrev pub number_of : ℕ → List TokenKind → Read ℕ
+number_of at ts = led number_next (Err at) at ts
+
+-- ---- names after a comma
+
+abbrev pub comma_name_next : Next Text
+comma_name_next (Symbol Comma) = Some (λ at ts. name_of at ts)
+comma_name_next _ = None
+
+abbrev pub comma_name_of : ℕ → List TokenKind → Read Text
+comma_name_of at ts = led comma_name_next (Err at) at ts
+
+-- ---- places and values
+
+abbrev pub dot_next : Text → Next PlaceTree
+dot_next n (Symbol Dot) = Some (λ at ts. name_of at ts >>= λ f at ts. Ok (PlaceOf n (Some f), at, ts))
+dot_next n _ = None
+
+-- a place, from after its name
+abbrev pub place_of_name : Text → ℕ → List TokenKind → Read PlaceTree
+place_of_name n at ts = led (dot_next n) (Ok (PlaceOf n None, at, ts)) at ts
+
+abbrev pub place_of : ℕ → List TokenKind → Read PlaceTree
+place_of at ts = name_of at ts >>= λ n at ts. place_of_name n at ts
+
+abbrev pub value_next : Next ValueTree
+value_next (Word Null) = alone NullValue
+value_next (Word New) = alone NewValue
+value_next (Number k) = alone (NumberValue k)
+value_next (Word Mark) = Some (λ at ts. name_of at ts >>= λ n at ts. Ok (MarkValue n, at, ts))
+value_next (Word Unmark) = Some (λ at ts. name_of at ts >>= λ n at ts. Ok (UnmarkValue n, at, ts))
+value_next (Name n) = Some (λ at ts. place_of_name n at ts >>= λ p at ts. Ok (PlaceValue p, at, ts))
+value_next _ = None
+
+abbrev pub value_of : ℕ → List TokenKind → Read ValueTree
+value_of at ts = led value_next (Err at) at ts
+
+abbrev pub atom_next : Next AtomTree
+atom_next (Word Null) = alone NullAtom
+atom_next (Number k) = alone (NumberAtom k)
+atom_next (Name n) = alone (NameAtom n)
+atom_next _ = None
+
+abbrev pub atom_of : ℕ → List TokenKind → Read AtomTree
+atom_of at ts = led atom_next (Err at) at ts
+
+abbrev pub ghost_value_next : Next GhostValueTree
+ghost_value_next (Name n) = alone (NameGhost n)
+ghost_value_next (Word Me) = alone MeGhost
+ghost_value_next (Word NoneWord) = alone NoneGhost
+ghost_value_next _ = None
+
+abbrev pub ghost_value_of : ℕ → List TokenKind → Read GhostValueTree
+ghost_value_of at ts = led ghost_value_next (Err at) at ts
+
+-- ---- tests and conditions
+
+abbrev pub comparison_next : Next Comparison
+comparison_next (Symbol Equal) = alone SameAs
+comparison_next (Symbol Unequal) = alone OtherThan
+comparison_next (Symbol Less) = alone LessThan
+comparison_next (Symbol AtLeast) = alone NotLessThan
+comparison_next _ = None
+
+abbrev pub comparison_of : ℕ → List TokenKind → Read Comparison
+comparison_of at ts = led comparison_next (Err at) at ts
+
+-- a comparison, from after its name
+abbrev pub compared_of : Text → ℕ → List TokenKind → Read TestTree
+compared_of n at ts =
+    comparison_of at ts >>= λ c at ts. atom_of at ts >>= λ a at ts. Ok (Compares n c a, at, ts)
+
+abbrev pub test_next : Next TestTree
+test_next (Word Marked) = Some (λ at ts. name_of at ts >>= λ n at ts. Ok (MarkedTest n, at, ts))
+test_next (Word Unmarked) = Some (λ at ts. name_of at ts >>= λ n at ts. Ok (UnmarkedTest n, at, ts))
+test_next (Name n) = Some (λ at ts. compared_of n at ts)
+test_next _ = None
+
+abbrev pub test_of : ℕ → List TokenKind → Read TestTree
+test_of at ts = led test_next (Err at) at ts
+
+abbrev pub name_or_null_next : Next (Option Text)
+name_or_null_next (Name n) = alone (Some n)
+name_or_null_next (Word Null) = alone None
+name_or_null_next _ = None
+
+abbrev pub name_or_null_of : ℕ → List TokenKind → Read (Option Text)
+name_or_null_of at ts = led name_or_null_next (Err at) at ts
+
+abbrev pub active_next : Next Bool
+active_next (Word Active) = alone true
+active_next _ = None
+
+-- "active", which may be left out
+abbrev pub active_word_of : ℕ → List TokenKind → Read Bool
+active_word_of at ts = led active_next (Ok (false, at, ts)) at ts
+
+-- the three pointers of a cas and the parenthesis after them
+abbrev pub cas_of : Bool → ℕ → List TokenKind → Read ConditionTree
+cas_of is_active at ts = name_of at ts >>= λ n at ts.
+    symbol_of Comma at ts >> λ at ts. name_or_null_of at ts >>= λ old at ts.
+    symbol_of Comma at ts >> λ at ts. name_or_null_of at ts >>= λ new at ts.
+    symbol_of CloseParen at ts >> λ at ts. Ok (CasCondition is_active n old new, at, ts)
+
+-- a cas, from after its word
+abbrev pub cas_condition_of : ℕ → List TokenKind → Read ConditionTree
+cas_condition_of at ts =
+    symbol_of OpenParen at ts >> λ at ts. active_word_of at ts >>= λ w at ts. cas_of w at ts
+
+abbrev pub named_condition_next : Text → Next ConditionTree
+named_condition_next n (Symbol Refresh) =
+    Some (λ at ts. place_of at ts >>= λ p at ts. Ok (RefreshCondition n p, at, ts))
+named_condition_next n _ = None
+
+-- a condition, from after its name
+abbrev pub named_condition_of : Text → ℕ → List TokenKind → Read ConditionTree
+named_condition_of n at ts = led (named_condition_next n)
+    (compared_of n at ts >>= λ t at ts. Ok (TestCondition t, at, ts)) at ts
+
+abbrev pub condition_next : Next ConditionTree
+condition_next (Word Cas) = Some (λ at ts. cas_condition_of at ts)
+condition_next (Name n) = Some (λ at ts. named_condition_of n at ts)
+condition_next _ = None
+
+abbrev pub condition_of : ℕ → List TokenKind → Read ConditionTree
+condition_of at ts = led condition_next (test_of at ts >>= λ t at ts. Ok (TestCondition t, at, ts)) at ts
+
+-- ---- primitives
+
+abbrev pub field_tail_next : Text → Text → Next PrimitiveTree
+field_tail_next n f (Symbol Assign) =
+    Some (λ at ts. atom_of at ts >>= λ a at ts. Ok (SetPrimitive (SetField n f a), at, ts))
+field_tail_next n f (Symbol Refresh) =
+    Some (λ at ts. name_of at ts >>= λ q at ts. Ok (RefreshPrimitive (RefreshField n f q), at, ts))
+field_tail_next n f _ = None
+
+-- what follows a name, a dot and a field on the left
+abbrev pub field_tail_of : Text → Text → ℕ → List TokenKind → Read PrimitiveTree
+field_tail_of n f at ts = led (field_tail_next n f) (Err at) at ts
+
+abbrev pub named_tail_next : Text → Next PrimitiveTree
+named_tail_next n (Symbol Assign) =
+    Some (λ at ts. value_of at ts >>= λ v at ts. Ok (SetPrimitive (SetName n v), at, ts))
+named_tail_next n (Symbol Refresh) =
+    Some (λ at ts. place_of at ts >>= λ p at ts. Ok (RefreshPrimitive (RefreshName n p), at, ts))
+named_tail_next n (Symbol Dot) = Some (λ at ts. name_of at ts >>= λ f at ts. field_tail_of n f at ts)
+named_tail_next n _ = None
+
+-- what follows a name on the left
+abbrev pub named_tail_of : Text → ℕ → List TokenKind → Read PrimitiveTree
+named_tail_of n at ts = led (named_tail_next n) (Err at) at ts
+
+-- an assignment to an auxiliary field, from after its word
+abbrev pub ghost_set_of : ℕ → List TokenKind → Read GhostSetTree
+ghost_set_of at ts = name_of at ts >>= λ n at ts.
+    symbol_of Dot at ts >> λ at ts. name_of at ts >>= λ g at ts.
+    symbol_of Assign at ts >> λ at ts. ghost_value_of at ts >>= λ v at ts. Ok (SetGhost n g v, at, ts)
+
+abbrev pub primitive_next : Next PrimitiveTree
+primitive_next (Name n) = Some (λ at ts. named_tail_of n at ts)
+primitive_next (Word Ghost) = Some (λ at ts. ghost_set_of at ts >>= λ g at ts. Ok (GhostPrimitive g, at, ts))
+primitive_next (Word Active) = Some (λ at ts. name_of at ts >>= λ n at ts. Ok (ActivePrimitive n, at, ts))
+primitive_next (Word Assume) = Some (λ at ts. test_of at ts >>= λ t at ts. Ok (AssumePrimitive t, at, ts))
+primitive_next (Word Skip) = alone SkipPrimitive
+primitive_next _ = None
+
+abbrev pub primitive_of : ℕ → List TokenKind → Read PrimitiveTree
+primitive_of at ts = led primitive_next (Err at) at ts
+
+abbrev pub primitive_line_of : ℕ → List TokenKind → Read PrimitiveTree
+primitive_line_of at ts = primitive_of at ts >>= λ p at ts. symbol_of Semicolon at ts >> λ at ts. Ok (p, at, ts)
+
+-- ---- the assignments of `init`
+
+-- an assignment to a field, from after the field's name
+abbrev pub set_field_of : Text → Text → ℕ → List TokenKind → Read SetTree
+set_field_of n f at ts =
+    symbol_of Assign at ts >> λ at ts. atom_of at ts >>= λ a at ts. Ok (SetField n f a, at, ts)
+
+abbrev pub set_next : Text → Next SetTree
+set_next n (Symbol Assign) = Some (λ at ts. value_of at ts >>= λ v at ts. Ok (SetName n v, at, ts))
+set_next n (Symbol Dot) = Some (λ at ts. name_of at ts >>= λ f at ts. set_field_of n f at ts)
+set_next n _ = None
+
+-- an assignment, from after its first name
+abbrev pub set_of_name : Text → ℕ → List TokenKind → Read SetTree
+set_of_name n at ts = led (set_next n) (Err at) at ts
+
+abbrev pub initial_next : Next InitialTree
+initial_next (Name n) = Some (λ at ts. set_of_name n at ts >>= λ s at ts.
+    symbol_of Semicolon at ts >> λ at ts. Ok (InitialSet s, at, ts))
+initial_next (Word Ghost) = Some (λ at ts. ghost_set_of at ts >>= λ g at ts.
+    symbol_of Semicolon at ts >> λ at ts. Ok (InitialGhost g, at, ts))
+initial_next _ = None
+
+abbrev pub initial_of : ℕ → List TokenKind → Read InitialTree
+initial_of at ts = led initial_next (Err at) at ts
+
+-- ---- calls
+
+abbrev pub argument_next : Next ArgumentTree
+argument_next (Word Null) = alone NullArgument
+argument_next (Name n) = alone (NameArgument n)
+argument_next (Word Active) = Some (λ at ts. name_of at ts >>= λ n at ts. Ok (ActiveArgument n, at, ts))
+argument_next _ = None
+
+abbrev pub argument_of : ℕ → List TokenKind → Read ArgumentTree
+argument_of at ts = led argument_next (Ok (NoArgument, at, ts)) at ts
+
+abbrev pub during_next : Next (Option Text)
+during_next (Word During) = Some (λ at ts. name_of at ts >>= λ n at ts. Ok (Some n, at, ts))
+during_next _ = None
+
+-- "during" and a label, which may be left out
+abbrev pub during_of : ℕ → List TokenKind → Read (Option Text)
+during_of at ts = led during_next (Ok (None, at, ts)) at ts
+
+-- ---- declarations
+
+abbrev pub field_next : Next FieldTree
+field_next (Word Ptr) = Some (λ at ts. name_of at ts >>= λ n at ts.
+    symbol_of Semicolon at ts >> λ at ts. Ok (PointerField n, at, ts))
+field_next (Word Data) = Some (λ at ts. name_of at ts >>= λ n at ts.
+    symbol_of Semicolon at ts >> λ at ts. Ok (DataField n, at, ts))
+field_next _ = None
+
+abbrev pub field_of : ℕ → List TokenKind → Read FieldTree
+field_of at ts = led field_next (Err at) at ts
+
+abbrev pub shared_of : ℕ → List TokenKind → Read Text
+shared_of at ts = word_of Shared at ts >> λ at ts. name_of at ts >>= λ n at ts.
+    symbol_of Semicolon at ts >> λ at ts. Ok (n, at, ts)
+
+abbrev pub pointer_next : Next Bool
+pointer_next (Word Ptr) = alone true
+pointer_next _ = None
+
+-- "ptr", which may be left out
+abbrev pub pointer_word_of : ℕ → List TokenKind → Read Bool
+pointer_word_of at ts = led pointer_next (Ok (false, at, ts)) at ts
+
+abbrev pub function_of : ℕ → List TokenKind → Read FunctionTree
+function_of at ts = word_of Call at ts >> λ at ts. name_of at ts >>= λ n at ts.
+    symbol_of OpenParen at ts >> λ at ts. pointer_word_of at ts >>= λ w at ts.
+    symbol_of CloseParen at ts >> λ at ts. symbol_of Semicolon at ts >> λ at ts. Ok (Declares n w, at, ts)
+
+-- a function of hazard pointers, from after its word
+abbrev pub hazard_of : ℕ → List TokenKind → Read WatchTree
+hazard_of at ts = symbol_of OpenParen at ts >> λ at ts. name_of at ts >>= λ f at ts.
+    symbol_of CloseParen at ts >> λ at ts. symbol_of Semicolon at ts >> λ at ts. Ok (UseHazard f, at, ts)
+
+-- two functions of epochs, from after the word
+abbrev pub epoch_of : ℕ → List TokenKind → Read WatchTree
+epoch_of at ts = symbol_of OpenParen at ts >> λ at ts. name_of at ts >>= λ e at ts.
+    symbol_of Comma at ts >> λ at ts. name_of at ts >>= λ l at ts.
+    symbol_of CloseParen at ts >> λ at ts. symbol_of Semicolon at ts >> λ at ts. Ok (UseEpoch e l, at, ts)
+
+abbrev pub scheme_next : Next WatchTree
+scheme_next (Word Hazard) = Some (λ at ts. hazard_of at ts)
+scheme_next (Word Epoch) = Some (λ at ts. epoch_of at ts)
+scheme_next _ = None
+
+abbrev pub scheme_of : ℕ → List TokenKind → Read WatchTree
+scheme_of at ts = led scheme_next (Err at) at ts
+
+abbrev pub watch_next : Next (Option WatchTree)
+watch_next (Word Use) = Some (λ at ts. scheme_of at ts >>= λ w at ts. Ok (Some w, at, ts))
+watch_next _ = None
+
+-- what the reclaimer watches, which may be left out
+abbrev pub watch_of : ℕ → List TokenKind → Read (Option WatchTree)
+watch_of at ts = led watch_next (Ok (None, at, ts)) at ts
+
+-- ---- clauses of an outline
+
+abbrev pub term_next : Next TermTree
+term_next (Word Null) = alone NullTerm
+term_next (Number k) = alone (NumberTerm k)
+term_next (Word Me) = alone MeTerm
+term_next (Word NoneWord) = alone NoneTerm
+term_next (Name n) = Some (λ at ts. place_of_name n at ts >>= λ p at ts. Ok (PlaceTerm p, at, ts))
+term_next _ = None
+
+abbrev pub term_of : ℕ → List TokenKind → Read TermTree
+term_of at ts = led term_next (Err at) at ts
+
+abbrev pub equality_next : Next Bool
+equality_next (Symbol Equal) = alone true
+equality_next (Symbol Unequal) = alone false
+equality_next _ = None
+
+abbrev pub equality_of : ℕ → List TokenKind → Read Bool
+equality_of at ts = led equality_next (Err at) at ts
+
+-- "retired" of a name, from after its word
+abbrev pub retired_of : ℕ → List TokenKind → Read FlagTree
+retired_of at ts = symbol_of OpenParen at ts >> λ at ts. name_of at ts >>= λ n at ts.
+    symbol_of CloseParen at ts >> λ at ts. Ok (RetiredFlag n, at, ts)
+
+-- "marked" of a place, from after its word
+abbrev pub marked_of : ℕ → List TokenKind → Read FlagTree
+marked_of at ts = symbol_of OpenParen at ts >> λ at ts. place_of at ts >>= λ p at ts.
+    symbol_of CloseParen at ts >> λ at ts. Ok (MarkedFlag p, at, ts)
+
+abbrev pub flag_next : Next FlagTree
+flag_next (Word Retired) = Some (λ at ts. retired_of at ts)
+flag_next (Word Marked) = Some (λ at ts. marked_of at ts)
+flag_next _ = None
+
+abbrev pub flag_of : ℕ → List TokenKind → Read FlagTree
+flag_of at ts = led flag_next (Err at) at ts
+
+abbrev pub equation_of : ℕ → List TokenKind → Read LiteralTree
+equation_of at ts = term_of at ts >>= λ a at ts. equality_of at ts >>= λ e at ts.
+    term_of at ts >>= λ b at ts. Ok (EqualityLiteral a e b, at, ts)
+
+abbrev pub literal_next : Next LiteralTree
+literal_next (Word Not) = Some (λ at ts. flag_of at ts >>= λ f at ts. Ok (NotLiteral f, at, ts))
+literal_next (Word Retired) = Some (λ at ts. retired_of at ts >>= λ f at ts. Ok (FlagLiteral f, at, ts))
+literal_next (Word Marked) = Some (λ at ts. marked_of at ts >>= λ f at ts. Ok (FlagLiteral f, at, ts))
+literal_next _ = None
+
+abbrev pub literal_of : ℕ → List TokenKind → Read LiteralTree
+literal_of at ts = led literal_next (equation_of at ts) at ts
+
+abbrev pub or_literal_of : ℕ → List TokenKind → Read LiteralTree
+or_literal_of at ts = word_of Or at ts >> λ at ts. literal_of at ts
+
+abbrev pub second_next : Next (Option Text)
+second_next (Symbol Comma) = Some (λ at ts. name_of at ts >>= λ n at ts. Ok (Some n, at, ts))
+second_next _ = None
+
+-- a second quantified name, which may be left out
+abbrev pub second_of : ℕ → List TokenKind → Read (Option Text)
+second_of at ts = led second_next (Ok (None, at, ts)) at ts
+
+-- one or two quantified names, from after "all"
+abbrev pub all_of : ℕ → List TokenKind → Read BoundTree
+all_of at ts = name_of at ts >>= λ n at ts. second_of at ts >>= λ k at ts.
+    symbol_of Colon at ts >> λ at ts. Ok (AllOf n k, at, ts)
+
+abbrev pub bound_next : Next BoundTree
+bound_next (Word All) = Some (λ at ts. all_of at ts)
+bound_next _ = None
+
+abbrev pub bound_of : ℕ → List TokenKind → Read BoundTree
+bound_of at ts = led bound_next (Ok (NoBound, at, ts)) at ts
+
+-- ---- the depth of an outline
+
+abbrev pub depth_next : Next (Option ℕ)
+depth_next (Word Depth) = Some (λ at ts. number_of at ts >>= λ d at ts.
+    symbol_of Semicolon at ts >> λ at ts. Ok (Some d, at, ts))
+depth_next _ = None
+
+-- the depth, which may be left out
+abbrev pub depth_of : ℕ → List TokenKind → Read (Option ℕ)
+depth_of at ts = led depth_next (Ok (None, at, ts)) at ts

@@ -1,0 +1,179 @@
+-- The trees of the program's forms. Names are those of the tokens, so a form stands for the tree with their bytes.
+use Rattle.std.specs.Prelude.{ℕ, List, Option, Some, None}
+use Rattle.std.specs.Borrow.{Bor}
+use Rattle.plc_syntax.specs.Trees.{Text, FieldTree, PointerField, DataField, PlaceTree, PlaceOf, AtomTree, NullAtom}
+use Rattle.plc_syntax.specs.Trees.{NumberAtom, NameAtom, ValueTree, NullValue, NewValue, NumberValue, PlaceValue}
+use Rattle.plc_syntax.specs.Trees.{SetTree, SetName, SetField, RefreshTree, RefreshName, RefreshField, GhostValueTree}
+use Rattle.plc_syntax.specs.Trees.{NameGhost, MeGhost, NoneGhost, GhostSetTree, SetGhost, InitialTree, InitialSet}
+use Rattle.plc_syntax.specs.Trees.{InitialGhost, Comparison, SameAs, OtherThan, LessThan, NotLessThan, TestTree}
+use Rattle.plc_syntax.specs.Trees.{Compares, MarkedTest, UnmarkedTest, MarkValue, UnmarkValue, ConditionTree}
+use Rattle.plc_syntax.specs.Trees.{TestCondition, RefreshCondition, CasCondition, PrimitiveTree, SetPrimitive}
+use Rattle.plc_syntax.specs.Trees.{RefreshPrimitive, GhostPrimitive, ActivePrimitive, AssumePrimitive, SkipPrimitive}
+use Rattle.plc_syntax.specs.Trees.{ArgumentTree, NoArgument, NullArgument, NameArgument, ActiveArgument, FunctionTree}
+use Rattle.plc_syntax.specs.Trees.{Declares, WatchTree, UseHazard, UseEpoch, TermTree, PlaceTerm, NullTerm, NumberTerm}
+use Rattle.plc_syntax.specs.Trees.{MeTerm, NoneTerm, FlagTree, RetiredFlag, MarkedFlag, LiteralTree, FlagLiteral}
+use Rattle.plc_syntax.specs.Trees.{NotLiteral, EqualityLiteral, BoundTree, NoBound, AllOf}
+use Rattle.plc_syntax.specs.declared.form.Declaration.{Declaration}
+use Rattle.plc_syntax.specs.declared.form.Declaration.TheVariants as declarations
+use Rattle.plc_syntax.specs.declared.form.Function.{Function}
+use Rattle.plc_syntax.specs.declared.form.Watch.{Watch}
+use Rattle.plc_syntax.specs.declared.form.Watch.TheVariants as watches
+use Rattle.plc_syntax.specs.declared.form.Place.{Place}
+use Rattle.plc_syntax.specs.declared.form.Value.{Value}
+use Rattle.plc_syntax.specs.declared.form.Value.TheVariants as values
+use Rattle.plc_syntax.specs.declared.form.Atom.{Atom}
+use Rattle.plc_syntax.specs.declared.form.Atom.TheVariants as atoms
+use Rattle.plc_syntax.specs.declared.form.Set.{Set}
+use Rattle.plc_syntax.specs.declared.form.Set.TheVariants as sets
+use Rattle.plc_syntax.specs.declared.form.Refresh.{Refresh}
+use Rattle.plc_syntax.specs.declared.form.Refresh.TheVariants as refreshes
+use Rattle.plc_syntax.specs.declared.form.GhostValue.{GhostValue}
+use Rattle.plc_syntax.specs.declared.form.GhostValue.TheVariants as ghosts
+use Rattle.plc_syntax.specs.declared.form.GhostSet.{GhostSet}
+use Rattle.plc_syntax.specs.declared.form.Relation.{Relation}
+use Rattle.plc_syntax.specs.declared.form.Relation.TheVariants as relations
+use Rattle.plc_syntax.specs.declared.form.Test.{Test}
+use Rattle.plc_syntax.specs.declared.form.Test.TheVariants as tests
+use Rattle.plc_syntax.specs.declared.form.Condition.{Condition}
+use Rattle.plc_syntax.specs.declared.form.Condition.TheVariants as conditions
+use Rattle.plc_syntax.specs.declared.form.Cas.{Cas}
+use Rattle.plc_syntax.specs.declared.form.Primitive.{Primitive}
+use Rattle.plc_syntax.specs.declared.form.Primitive.TheVariants as primitives
+use Rattle.plc_syntax.specs.declared.form.Initial.{Initial}
+use Rattle.plc_syntax.specs.declared.form.Initial.TheVariants as initials
+use Rattle.plc_syntax.specs.declared.form.Argument.{Argument}
+use Rattle.plc_syntax.specs.declared.form.Argument.TheVariants as arguments
+use Rattle.plc_syntax.specs.declared.form.Shared.{Shared}
+use Rattle.plc_syntax.specs.declared.form.Term.{Term}
+use Rattle.plc_syntax.specs.declared.form.Term.TheVariants as terms
+use Rattle.plc_syntax.specs.declared.form.Flag.{Flag}
+use Rattle.plc_syntax.specs.declared.form.Flag.TheVariants as flags
+use Rattle.plc_syntax.specs.declared.form.Literal.{Literal}
+use Rattle.plc_syntax.specs.declared.form.Literal.TheVariants as literals
+use Rattle.plc_syntax.specs.declared.form.Bound.{Bound}
+use Rattle.plc_syntax.specs.declared.form.Bound.TheVariants as bounds
+
+-- the bytes of a name
+abbrev pub text_of : Bor Text → Text
+text_of name = name.now
+
+-- the bytes of a name that may be left out
+abbrev pub text_or_none : Option (Bor (List ℕ)) → Option Text
+text_or_none None = None
+text_or_none (Some t) = Some t.now
+
+-- ---- declarations
+
+abbrev pub field_tree : Declaration → FieldTree
+field_tree (declarations.Pointer n) = PointerField n.now
+field_tree (declarations.Data n) = DataField n.now
+
+abbrev pub shared_name : Shared → Text
+shared_name s = s.name.now
+
+abbrev pub function_tree : Function → FunctionTree
+function_tree f = Declares f.name.now f.takes_pointer
+
+abbrev pub watch_tree : Watch → WatchTree
+watch_tree (watches.Hazard f) = UseHazard f.now
+watch_tree (watches.Epoch e l) = UseEpoch e.now l.now
+
+-- what is watched, which may be left out
+abbrev pub watched_tree : Option Watch → Option WatchTree
+watched_tree None = None
+watched_tree (Some w) = Some (watch_tree w)
+
+-- ---- primitives
+
+abbrev pub place_tree : Place → PlaceTree
+place_tree p = PlaceOf p.name.now (text_or_none p.field)
+
+abbrev pub value_tree : Value → ValueTree
+value_tree values.Null = NullValue
+value_tree values.New = NewValue
+value_tree (values.Number n) = NumberValue n
+value_tree (values.Mark n) = MarkValue n.now
+value_tree (values.Unmark n) = UnmarkValue n.now
+value_tree (values.Place p) = PlaceValue (place_tree p)
+
+abbrev pub atom_tree : Atom → AtomTree
+atom_tree atoms.Null = NullAtom
+atom_tree (atoms.Number n) = NumberAtom n
+atom_tree (atoms.Name n) = NameAtom n.now
+
+abbrev pub set_tree : Set → SetTree
+set_tree (sets.Name n v) = SetName n.now (value_tree v)
+set_tree (sets.Field n f a) = SetField n.now f.now (atom_tree a)
+
+abbrev pub refresh_tree : Refresh → RefreshTree
+refresh_tree (refreshes.Name n p) = RefreshName n.now (place_tree p)
+refresh_tree (refreshes.Field n f q) = RefreshField n.now f.now q.now
+
+abbrev pub ghost_value_tree : GhostValue → GhostValueTree
+ghost_value_tree (ghosts.Name n) = NameGhost n.now
+ghost_value_tree ghosts.Me = MeGhost
+ghost_value_tree ghosts.None = NoneGhost
+
+abbrev pub ghost_set_tree : GhostSet → GhostSetTree
+ghost_set_tree g = SetGhost g.name.now g.field.now (ghost_value_tree g.value)
+
+abbrev pub relation_tree : Relation → Comparison
+relation_tree relations.Same = SameAs
+relation_tree relations.Other = OtherThan
+relation_tree relations.Less = LessThan
+relation_tree relations.NotLess = NotLessThan
+
+abbrev pub test_tree : Test → TestTree
+test_tree (tests.Marked n) = MarkedTest n.now
+test_tree (tests.Unmarked n) = UnmarkedTest n.now
+test_tree (tests.Compares n r a) = Compares n.now (relation_tree r) (atom_tree a)
+
+abbrev pub cas_tree : Cas → ConditionTree
+cas_tree c = CasCondition c.is_active c.name.now (text_or_none c.old) (text_or_none c.new)
+
+abbrev pub condition_tree : Condition → ConditionTree
+condition_tree (conditions.Test t) = TestCondition (test_tree t)
+condition_tree (conditions.Refresh n p) = RefreshCondition n.now (place_tree p)
+condition_tree (conditions.Cas c) = cas_tree c
+
+abbrev pub primitive_tree : Primitive → PrimitiveTree
+primitive_tree (primitives.Set s) = SetPrimitive (set_tree s)
+primitive_tree (primitives.Refresh r) = RefreshPrimitive (refresh_tree r)
+primitive_tree (primitives.Ghost g) = GhostPrimitive (ghost_set_tree g)
+primitive_tree (primitives.Active n) = ActivePrimitive n.now
+primitive_tree (primitives.Assume t) = AssumePrimitive (test_tree t)
+primitive_tree primitives.Skip = SkipPrimitive
+
+abbrev pub initial_tree : Initial → InitialTree
+initial_tree (initials.Set s) = InitialSet (set_tree s)
+initial_tree (initials.Ghost g) = InitialGhost (ghost_set_tree g)
+
+-- ---- calls
+
+abbrev pub argument_tree : Argument → ArgumentTree
+argument_tree arguments.None = NoArgument
+argument_tree arguments.Null = NullArgument
+argument_tree (arguments.Name n) = NameArgument n.now
+argument_tree (arguments.Active n) = ActiveArgument n.now
+
+-- ---- outlines
+
+abbrev pub term_tree : Term → TermTree
+term_tree (terms.Place p) = PlaceTerm (place_tree p)
+term_tree terms.Null = NullTerm
+term_tree (terms.Number n) = NumberTerm n
+term_tree terms.Me = MeTerm
+term_tree terms.None = NoneTerm
+
+abbrev pub flag_tree : Flag → FlagTree
+flag_tree (flags.Retired n) = RetiredFlag n.now
+flag_tree (flags.Marked p) = MarkedFlag (place_tree p)
+
+abbrev pub literal_tree : Literal → LiteralTree
+literal_tree (literals.Flag f) = FlagLiteral (flag_tree f)
+literal_tree (literals.Not f) = NotLiteral (flag_tree f)
+literal_tree (literals.Equation a e b) = EqualityLiteral (term_tree a) e (term_tree b)
+
+abbrev pub bound_tree : Bound → BoundTree
+bound_tree bounds.None = NoBound
+bound_tree (bounds.All n m) = AllOf n.now (text_or_none m)

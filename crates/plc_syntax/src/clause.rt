@@ -1,0 +1,156 @@
+// What an outline is made of: its depth, and the literals and the quantified names of its clauses.
+ghost use Rattle.plc_syntax.specs.Syntax.{kinds};
+ghost use Rattle.plc_syntax.specs.Views.{text_or_none, term_tree, flag_tree, literal_tree, bound_tree};
+ghost use Rattle.plc_syntax.specs.Forms.{term_of, equality_of, retired_of, marked_of, flag_of, equation_of, literal_of};
+ghost use Rattle.plc_syntax.specs.Forms.{or_literal_of, second_of, all_of, bound_of, depth_of};
+ghost use Rattle.plc_syntax.specs.Answers.{Gives};
+
+use crate::form::{Bound, Flag, Literal, Term};
+use crate::front::{Read, first, name_at, number_at, stuck, symbol_at, word_at};
+use crate::rest::Rest;
+use crate::statement::{place_at, place_of_name_at};
+use plc_lex::{Keyword, Symbol, TokenKind};
+
+/// A side of an equation.
+pub fn term_at<'a>(rest: Rest<'a>) -> Read<'a, Term<'a>>
+    ensures { Gives term_tree result (term_of rest.entry.at (kinds rest.entry.tokens.now)) }
+{
+    match first(rest) {
+        Some((TokenKind::Word(Keyword::Null), after)) => Ok((Term::Null, after)),
+        Some((TokenKind::Number(n), after)) => Ok((Term::Number(*n), after)),
+        Some((TokenKind::Word(Keyword::Me), after)) => Ok((Term::Me, after)),
+        Some((TokenKind::Word(Keyword::None), after)) => Ok((Term::None, after)),
+        Some((TokenKind::Name(name), after)) => {
+            let (place, after) = place_of_name_at(name.as_slice(), after)?;
+            Ok((Term::Place(place), after))
+        }
+        _ => Err(stuck(rest)),
+    }
+}
+
+/// What stands between the sides, and whether it says that they are equal.
+pub fn equality_at<'a>(rest: Rest<'a>) -> Read<'a, bool>
+    ensures { Gives (λ b. b) result (equality_of rest.entry.at (kinds rest.entry.tokens.now)) }
+{
+    match first(rest) {
+        Some((TokenKind::Symbol(Symbol::Equal), after)) => Ok((true, after)),
+        Some((TokenKind::Symbol(Symbol::Unequal), after)) => Ok((false, after)),
+        _ => Err(stuck(rest)),
+    }
+}
+
+/// "retired" of a name, from after its word.
+pub fn retired_at<'a>(rest: Rest<'a>) -> Read<'a, Flag<'a>>
+    ensures { Gives flag_tree result (retired_of rest.entry.at (kinds rest.entry.tokens.now)) }
+{
+    let after = symbol_at(rest, Symbol::OpenParen)?;
+    let (name, after) = name_at(after)?;
+    let after = symbol_at(after, Symbol::CloseParen)?;
+    Ok((Flag::Retired(name), after))
+}
+
+/// "marked" of a place, from after its word.
+pub fn marked_at<'a>(rest: Rest<'a>) -> Read<'a, Flag<'a>>
+    ensures { Gives flag_tree result (marked_of rest.entry.at (kinds rest.entry.tokens.now)) }
+{
+    let after = symbol_at(rest, Symbol::OpenParen)?;
+    let (place, after) = place_at(after)?;
+    let after = symbol_at(after, Symbol::CloseParen)?;
+    Ok((Flag::Marked(place), after))
+}
+
+/// A flag.
+pub fn flag_at<'a>(rest: Rest<'a>) -> Read<'a, Flag<'a>>
+    ensures { Gives flag_tree result (flag_of rest.entry.at (kinds rest.entry.tokens.now)) }
+{
+    match first(rest) {
+        Some((TokenKind::Word(Keyword::Retired), after)) => retired_at(after),
+        Some((TokenKind::Word(Keyword::Marked), after)) => marked_at(after),
+        _ => Err(stuck(rest)),
+    }
+}
+
+/// An equation or an inequation.
+pub fn equation_at<'a>(rest: Rest<'a>) -> Read<'a, Literal<'a>>
+    ensures { Gives literal_tree result (equation_of rest.entry.at (kinds rest.entry.tokens.now)) }
+{
+    let (left, after) = term_at(rest)?;
+    let (is_equal, after) = equality_at(after)?;
+    let (right, after) = term_at(after)?;
+    Ok((Literal::Equation(left, is_equal, right), after))
+}
+
+/// A literal.
+pub fn literal_at<'a>(rest: Rest<'a>) -> Read<'a, Literal<'a>>
+    ensures { Gives literal_tree result (literal_of rest.entry.at (kinds rest.entry.tokens.now)) }
+{
+    match first(rest) {
+        Some((TokenKind::Word(Keyword::Not), after)) => {
+            let (flag, after) = flag_at(after)?;
+            Ok((Literal::Not(flag), after))
+        }
+        Some((TokenKind::Word(Keyword::Retired), after)) => {
+            let (flag, after) = retired_at(after)?;
+            Ok((Literal::Flag(flag), after))
+        }
+        Some((TokenKind::Word(Keyword::Marked), after)) => {
+            let (flag, after) = marked_at(after)?;
+            Ok((Literal::Flag(flag), after))
+        }
+        _ => equation_at(rest),
+    }
+}
+
+/// A further literal, with its "or".
+pub fn or_literal_at<'a>(rest: Rest<'a>) -> Read<'a, Literal<'a>>
+    ensures { Gives literal_tree result (or_literal_of rest.entry.at (kinds rest.entry.tokens.now)) }
+{
+    literal_at(word_at(rest, Keyword::Or)?)
+}
+
+/// A second quantified name, which may be left out.
+pub fn second_at<'a>(rest: Rest<'a>) -> Read<'a, Option<&'a [u8]>>
+    ensures { Gives text_or_none result (second_of rest.entry.at (kinds rest.entry.tokens.now)) }
+{
+    match first(rest) {
+        Some((TokenKind::Symbol(Symbol::Comma), after)) => {
+            let (name, after) = name_at(after)?;
+            Ok((Some(name), after))
+        }
+        _ => Ok((None, rest)),
+    }
+}
+
+/// One or two quantified names, from after "all".
+pub fn all_at<'a>(rest: Rest<'a>) -> Read<'a, Bound<'a>>
+    ensures { Gives bound_tree result (all_of rest.entry.at (kinds rest.entry.tokens.now)) }
+{
+    let (name, after) = name_at(rest)?;
+    let (second, after) = second_at(after)?;
+    let after = symbol_at(after, Symbol::Colon)?;
+    Ok((Bound::All(name, second), after))
+}
+
+/// The quantified names of a clause, which may be left out.
+pub fn bound_at<'a>(rest: Rest<'a>) -> Read<'a, Bound<'a>>
+    ensures { Gives bound_tree result (bound_of rest.entry.at (kinds rest.entry.tokens.now)) }
+{
+    match first(rest) {
+        Some((TokenKind::Word(Keyword::All), after)) => all_at(after),
+        _ => Ok((Bound::None, rest)),
+    }
+}
+
+/// The depth, which may be left out.
+pub fn depth_at<'a>(rest: Rest<'a>) -> Read<'a, Option<u32>>
+    ensures { Gives (λ d. d) result (depth_of rest.entry.at (kinds rest.entry.tokens.now)) }
+{
+    match first(rest) {
+        Some((TokenKind::Word(Keyword::Depth), after)) => {
+            let (depth, after) = number_at(after)?;
+            let after = symbol_at(after, Symbol::Semicolon)?;
+            Ok((Some(depth), after))
+        }
+        _ => Ok((None, rest)),
+    }
+}

@@ -1,0 +1,137 @@
+// Tests and the conditions of `if`.
+ghost use Rattle.plc_syntax.specs.Syntax.{kinds};
+ghost use Rattle.plc_syntax.specs.Views.{text_or_none, relation_tree, test_tree, cas_tree, condition_tree};
+ghost use Rattle.plc_syntax.specs.Forms.{comparison_of, compared_of, test_of, name_or_null_of, active_word_of, cas_of};
+ghost use Rattle.plc_syntax.specs.Forms.{cas_condition_of, named_condition_of, condition_of};
+ghost use Rattle.plc_syntax.specs.Answers.{Gives};
+
+use crate::form::{Cas, Condition, Relation, Test};
+use crate::front::{Read, first, name_at, stuck, symbol_at};
+use crate::rest::Rest;
+use crate::statement::{atom_at, place_at};
+use plc_lex::{Keyword, Symbol, TokenKind};
+
+/// What stands between the sides of a test.
+pub fn relation_at<'a>(rest: Rest<'a>) -> Read<'a, Relation>
+    ensures { Gives relation_tree result (comparison_of rest.entry.at (kinds rest.entry.tokens.now)) }
+{
+    match first(rest) {
+        Some((TokenKind::Symbol(Symbol::Equal), after)) => Ok((Relation::Same, after)),
+        Some((TokenKind::Symbol(Symbol::Unequal), after)) => Ok((Relation::Other, after)),
+        Some((TokenKind::Symbol(Symbol::Less), after)) => Ok((Relation::Less, after)),
+        Some((TokenKind::Symbol(Symbol::AtLeast), after)) => Ok((Relation::NotLess, after)),
+        _ => Err(stuck(rest)),
+    }
+}
+
+/// A comparison, from after its name.
+pub fn compared_at<'a>(name: &'a [u8], rest: Rest<'a>) -> Read<'a, Test<'a>>
+    ensures { Gives test_tree result (compared_of name.now rest.entry.at (kinds rest.entry.tokens.now)) }
+{
+    let (relation, after) = relation_at(rest)?;
+    let (atom, after) = atom_at(after)?;
+    let test = Test::Compares {
+        name,
+        relation,
+        atom,
+    };
+    Ok((test, after))
+}
+
+/// A test.
+pub fn test_at<'a>(rest: Rest<'a>) -> Read<'a, Test<'a>>
+    ensures { Gives test_tree result (test_of rest.entry.at (kinds rest.entry.tokens.now)) }
+{
+    match first(rest) {
+        Some((TokenKind::Word(Keyword::Marked), after)) => {
+            let (name, after) = name_at(after)?;
+            Ok((Test::Marked(name), after))
+        }
+        Some((TokenKind::Word(Keyword::Unmarked), after)) => {
+            let (name, after) = name_at(after)?;
+            Ok((Test::Unmarked(name), after))
+        }
+        Some((TokenKind::Name(name), after)) => compared_at(name.as_slice(), after),
+        _ => Err(stuck(rest)),
+    }
+}
+
+/// A name, or `null`.
+pub fn name_or_null_at<'a>(rest: Rest<'a>) -> Read<'a, Option<&'a [u8]>>
+    ensures { Gives text_or_none result (name_or_null_of rest.entry.at (kinds rest.entry.tokens.now)) }
+{
+    match first(rest) {
+        Some((TokenKind::Name(name), after)) => Ok((Some(name.as_slice()), after)),
+        Some((TokenKind::Word(Keyword::Null), after)) => Ok((None, after)),
+        _ => Err(stuck(rest)),
+    }
+}
+
+/// "active", which may be left out.
+pub fn active_word_at<'a>(rest: Rest<'a>) -> Read<'a, bool>
+    ensures { Gives (λ b. b) result (active_word_of rest.entry.at (kinds rest.entry.tokens.now)) }
+{
+    match first(rest) {
+        Some((TokenKind::Word(Keyword::Active), after)) => Ok((true, after)),
+        _ => Ok((false, rest)),
+    }
+}
+
+/// The three pointers of a cas and the parenthesis after them.
+pub fn cas_at<'a>(is_active: bool, rest: Rest<'a>) -> Read<'a, Cas<'a>>
+    ensures { Gives cas_tree result (cas_of is_active rest.entry.at (kinds rest.entry.tokens.now)) }
+{
+    let (name, after) = name_at(rest)?;
+    let after = symbol_at(after, Symbol::Comma)?;
+    let (old, after) = name_or_null_at(after)?;
+    let after = symbol_at(after, Symbol::Comma)?;
+    let (new, after) = name_or_null_at(after)?;
+    let after = symbol_at(after, Symbol::CloseParen)?;
+    let cas = Cas {
+        is_active,
+        name,
+        old,
+        new,
+    };
+    Ok((cas, after))
+}
+
+/// A cas, from after its word.
+pub fn cas_condition_at<'a>(rest: Rest<'a>) -> Read<'a, Condition<'a>>
+    ensures { Gives condition_tree result (cas_condition_of rest.entry.at (kinds rest.entry.tokens.now)) }
+{
+    let after = symbol_at(rest, Symbol::OpenParen)?;
+    let (is_active, after) = active_word_at(after)?;
+    let (cas, after) = cas_at(is_active, after)?;
+    Ok((Condition::Cas(cas), after))
+}
+
+/// A condition, from after its name.
+pub fn named_condition_at<'a>(name: &'a [u8], rest: Rest<'a>) -> Read<'a, Condition<'a>>
+    ensures { Gives condition_tree result (named_condition_of name.now rest.entry.at (kinds rest.entry.tokens.now)) }
+{
+    match first(rest) {
+        Some((TokenKind::Symbol(Symbol::Refresh), after)) => {
+            let (place, after) = place_at(after)?;
+            Ok((Condition::Refresh(name, place), after))
+        }
+        _ => {
+            let (test, after) = compared_at(name, rest)?;
+            Ok((Condition::Test(test), after))
+        }
+    }
+}
+
+/// The condition of an `if`.
+pub fn condition_at<'a>(rest: Rest<'a>) -> Read<'a, Condition<'a>>
+    ensures { Gives condition_tree result (condition_of rest.entry.at (kinds rest.entry.tokens.now)) }
+{
+    match first(rest) {
+        Some((TokenKind::Word(Keyword::Cas), after)) => cas_condition_at(after),
+        Some((TokenKind::Name(name), after)) => named_condition_at(name.as_slice(), after),
+        _ => {
+            let (test, after) = test_at(rest)?;
+            Ok((Condition::Test(test), after))
+        }
+    }
+}

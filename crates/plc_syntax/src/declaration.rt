@@ -1,0 +1,163 @@
+// What a file declares before its operations: fields, shared pointers, functions of the reclaimer, what
+// it watches, and the assignments of the init block.
+ghost use Rattle.plc_syntax.specs.Syntax.{kinds};
+ghost use Rattle.plc_syntax.specs.Views.{field_tree, function_tree, watch_tree, shared_name, watched_tree, set_tree};
+ghost use Rattle.plc_syntax.specs.Views.{initial_tree};
+ghost use Rattle.plc_syntax.specs.Forms.{field_of, shared_of, pointer_word_of, function_of, hazard_of, epoch_of};
+ghost use Rattle.plc_syntax.specs.Forms.{scheme_of, watch_of, set_field_of, set_of_name, initial_of};
+ghost use Rattle.plc_syntax.specs.Answers.{Gives};
+
+use crate::form::{Declaration, Function, Initial, Set, Shared, Watch};
+use crate::front::{Read, first, name_at, stuck, symbol_at, word_at};
+use crate::rest::Rest;
+use crate::statement::{atom_at, ghost_set_at, value_at};
+use plc_lex::{Keyword, Symbol, TokenKind};
+
+/// A field of the struct or a local.
+pub fn field_at<'a>(rest: Rest<'a>) -> Read<'a, Declaration<'a>>
+    ensures { Gives field_tree result (field_of rest.entry.at (kinds rest.entry.tokens.now)) }
+{
+    match first(rest) {
+        Some((TokenKind::Word(Keyword::Ptr), after)) => {
+            let (name, after) = name_at(after)?;
+            let after = symbol_at(after, Symbol::Semicolon)?;
+            Ok((Declaration::Pointer(name), after))
+        }
+        Some((TokenKind::Word(Keyword::Data), after)) => {
+            let (name, after) = name_at(after)?;
+            let after = symbol_at(after, Symbol::Semicolon)?;
+            Ok((Declaration::Data(name), after))
+        }
+        _ => Err(stuck(rest)),
+    }
+}
+
+/// A shared pointer.
+pub fn shared_at<'a>(rest: Rest<'a>) -> Read<'a, Shared<'a>>
+    ensures { Gives shared_name result (shared_of rest.entry.at (kinds rest.entry.tokens.now)) }
+{
+    let after = word_at(rest, Keyword::Shared)?;
+    let (name, after) = name_at(after)?;
+    let after = symbol_at(after, Symbol::Semicolon)?;
+    Ok((Shared { name }, after))
+}
+
+/// "ptr", which may be left out.
+pub fn pointer_word_at<'a>(rest: Rest<'a>) -> Read<'a, bool>
+    ensures { Gives (λ b. b) result (pointer_word_of rest.entry.at (kinds rest.entry.tokens.now)) }
+{
+    match first(rest) {
+        Some((TokenKind::Word(Keyword::Ptr), after)) => Ok((true, after)),
+        _ => Ok((false, rest)),
+    }
+}
+
+/// A function of the reclaimer.
+pub fn function_at<'a>(rest: Rest<'a>) -> Read<'a, Function<'a>>
+    ensures { Gives function_tree result (function_of rest.entry.at (kinds rest.entry.tokens.now)) }
+{
+    let after = word_at(rest, Keyword::Call)?;
+    let (name, after) = name_at(after)?;
+    let after = symbol_at(after, Symbol::OpenParen)?;
+    let (takes_pointer, after) = pointer_word_at(after)?;
+    let after = symbol_at(after, Symbol::CloseParen)?;
+    let after = symbol_at(after, Symbol::Semicolon)?;
+    let function = Function {
+        name,
+        takes_pointer,
+    };
+    Ok((function, after))
+}
+
+/// The function of hazard pointers, from after its word.
+pub fn hazard_at<'a>(rest: Rest<'a>) -> Read<'a, Watch<'a>>
+    ensures { Gives watch_tree result (hazard_of rest.entry.at (kinds rest.entry.tokens.now)) }
+{
+    let after = symbol_at(rest, Symbol::OpenParen)?;
+    let (function, after) = name_at(after)?;
+    let after = symbol_at(after, Symbol::CloseParen)?;
+    let after = symbol_at(after, Symbol::Semicolon)?;
+    Ok((Watch::Hazard(function), after))
+}
+
+/// The two functions of epochs, from after the word.
+pub fn epoch_at<'a>(rest: Rest<'a>) -> Read<'a, Watch<'a>>
+    ensures { Gives watch_tree result (epoch_of rest.entry.at (kinds rest.entry.tokens.now)) }
+{
+    let after = symbol_at(rest, Symbol::OpenParen)?;
+    let (enter, after) = name_at(after)?;
+    let after = symbol_at(after, Symbol::Comma)?;
+    let (leave, after) = name_at(after)?;
+    let after = symbol_at(after, Symbol::CloseParen)?;
+    let after = symbol_at(after, Symbol::Semicolon)?;
+    Ok((Watch::Epoch(enter, leave), after))
+}
+
+/// What is watched, from after "use".
+pub fn scheme_at<'a>(rest: Rest<'a>) -> Read<'a, Watch<'a>>
+    ensures { Gives watch_tree result (scheme_of rest.entry.at (kinds rest.entry.tokens.now)) }
+{
+    match first(rest) {
+        Some((TokenKind::Word(Keyword::Hazard), after)) => hazard_at(after),
+        Some((TokenKind::Word(Keyword::Epoch), after)) => epoch_at(after),
+        _ => Err(stuck(rest)),
+    }
+}
+
+/// What the reclaimer watches, which may be left out.
+pub fn watch_at<'a>(rest: Rest<'a>) -> Read<'a, Option<Watch<'a>>>
+    ensures { Gives watched_tree result (watch_of rest.entry.at (kinds rest.entry.tokens.now)) }
+{
+    match first(rest) {
+        Some((TokenKind::Word(Keyword::Use), after)) => {
+            let (watch, after) = scheme_at(after)?;
+            Ok((Some(watch), after))
+        }
+        _ => Ok((None, rest)),
+    }
+}
+
+/// An assignment to a field, from after the field's name.
+pub fn set_field_at<'a>(name: &'a [u8], field: &'a [u8], rest: Rest<'a>) -> Read<'a, Set<'a>>
+    ensures { Gives set_tree result (set_field_of name.now field.now rest.entry.at (kinds rest.entry.tokens.now)) }
+{
+    let after = symbol_at(rest, Symbol::Assign)?;
+    let (atom, after) = atom_at(after)?;
+    Ok((Set::Field(name, field, atom), after))
+}
+
+/// An assignment, from after its first name.
+pub fn set_of_name_at<'a>(name: &'a [u8], rest: Rest<'a>) -> Read<'a, Set<'a>>
+    ensures { Gives set_tree result (set_of_name name.now rest.entry.at (kinds rest.entry.tokens.now)) }
+{
+    match first(rest) {
+        Some((TokenKind::Symbol(Symbol::Assign), after)) => {
+            let (value, after) = value_at(after)?;
+            Ok((Set::Name(name, value), after))
+        }
+        Some((TokenKind::Symbol(Symbol::Dot), after)) => {
+            let (field, after) = name_at(after)?;
+            set_field_at(name, field, after)
+        }
+        _ => Err(stuck(rest)),
+    }
+}
+
+/// An assignment and its semicolon.
+pub fn initial_at<'a>(rest: Rest<'a>) -> Read<'a, Initial<'a>>
+    ensures { Gives initial_tree result (initial_of rest.entry.at (kinds rest.entry.tokens.now)) }
+{
+    match first(rest) {
+        Some((TokenKind::Name(name), after)) => {
+            let (set, after) = set_of_name_at(name.as_slice(), after)?;
+            let after = symbol_at(after, Symbol::Semicolon)?;
+            Ok((Initial::Set(set), after))
+        }
+        Some((TokenKind::Word(Keyword::Ghost), after)) => {
+            let (set, after) = ghost_set_at(after)?;
+            let after = symbol_at(after, Symbol::Semicolon)?;
+            Ok((Initial::Ghost(set), after))
+        }
+        _ => Err(stuck(rest)),
+    }
+}

@@ -1,0 +1,86 @@
+// Single tokens at the front, and a name after its comma. Each reader takes what it names, or answers the
+// place of the token that stands there in its stead.
+ghost use Rattle.std.specs.Prelude.{◌≡◌, ◌+◌, ◌∷◌, [], MatchOption, IfSome};
+ghost use Rattle.plc_syntax.specs.Syntax.{kinds};
+ghost use Rattle.plc_syntax.specs.Views.{text_of};
+ghost use Rattle.plc_syntax.specs.Forms.{word_of, symbol_of, name_of, number_of, comma_name_of};
+ghost use Rattle.plc_syntax.specs.Answers.{Gives, Passes};
+
+use crate::fault::Fault;
+use crate::rest::Rest;
+use plc_lex::{Keyword, Symbol, TokenKind};
+
+/// A tree and what stands after it, or why there is none.
+pub type Read<'a, X> = Result<(X, Rest<'a>), Fault>;
+
+/// The fault at the first token.
+pub fn stuck(rest: Rest) -> Fault
+    ensures { result ≡ Fault.Syntax rest.entry.at }
+{
+    Fault::Syntax { at: rest.at }
+}
+
+/// The first token, of whatever kind.
+pub fn first<'a>(rest: Rest<'a>) -> Option<(&'a TokenKind, Rest<'a>)>
+    ensures read { MatchOption result (kinds rest.entry.tokens.now ≡ [])
+        (λ r. kinds rest.entry.tokens.now ≡ r.0.now ∷ kinds r.1.tokens.now) }
+    ensures at { IfSome result (λ r. r.1.at ≡ rest.entry.at + 1) }
+{
+    match rest.tokens {
+        [token, tokens @ ..] => {
+            let at = rest.at + 1;
+            Some((&token.kind, Rest { tokens, at }))
+        }
+        [] => None,
+    }
+}
+
+/// A keyword.
+pub fn word_at<'a>(rest: Rest<'a>, word: Keyword) -> Result<Rest<'a>, Fault>
+    ensures { Passes result (word_of word rest.entry.at (kinds rest.entry.tokens.now)) }
+{
+    match first(rest) {
+        Some((TokenKind::Word(found), after)) if *found == word => Ok(after),
+        _ => Err(stuck(rest)),
+    }
+}
+
+/// A symbol.
+pub fn symbol_at<'a>(rest: Rest<'a>, symbol: Symbol) -> Result<Rest<'a>, Fault>
+    ensures { Passes result (symbol_of symbol rest.entry.at (kinds rest.entry.tokens.now)) }
+{
+    match first(rest) {
+        Some((TokenKind::Symbol(found), after)) if *found == symbol => Ok(after),
+        _ => Err(stuck(rest)),
+    }
+}
+
+/// A name.
+pub fn name_at<'a>(rest: Rest<'a>) -> Read<'a, &'a [u8]>
+    ensures { Gives text_of result (name_of rest.entry.at (kinds rest.entry.tokens.now)) }
+{
+    match first(rest) {
+        Some((TokenKind::Name(name), after)) => Ok((name.as_slice(), after)),
+        _ => Err(stuck(rest)),
+    }
+}
+
+/// A name after its comma: a further parameter, value or label.
+pub fn comma_name_at<'a>(rest: Rest<'a>) -> Read<'a, &'a [u8]>
+    ensures { Gives text_of result (comma_name_of rest.entry.at (kinds rest.entry.tokens.now)) }
+{
+    match first(rest) {
+        Some((TokenKind::Symbol(Symbol::Comma), after)) => name_at(after),
+        _ => Err(stuck(rest)),
+    }
+}
+
+/// A number.
+pub fn number_at<'a>(rest: Rest<'a>) -> Read<'a, u32>
+    ensures { Gives (λ n. n) result (number_of rest.entry.at (kinds rest.entry.tokens.now)) }
+{
+    match first(rest) {
+        Some((TokenKind::Number(number), after)) => Ok((*number, after)),
+        _ => Err(stuck(rest)),
+    }
+}

@@ -1,0 +1,195 @@
+// What statements are made of: places, what is put into names, fields and auxiliary fields, primitives,
+// and what a call holds besides its name.
+ghost use Rattle.plc_syntax.specs.Syntax.{kinds};
+ghost use Rattle.plc_syntax.specs.Views.{place_tree, value_tree, atom_tree, ghost_value_tree, primitive_tree};
+ghost use Rattle.plc_syntax.specs.Views.{ghost_set_tree, text_or_none, argument_tree};
+ghost use Rattle.plc_syntax.specs.Forms.{place_of_name, place_of, value_of, atom_of, ghost_value_of, field_tail_of};
+ghost use Rattle.plc_syntax.specs.Forms.{named_tail_of, ghost_set_of, primitive_of, primitive_line_of, argument_of};
+ghost use Rattle.plc_syntax.specs.Forms.{during_of};
+ghost use Rattle.plc_syntax.specs.Answers.{Gives};
+
+use crate::condition::test_at;
+use crate::form::{Argument, Atom, GhostSet, GhostValue, Place, Primitive, Refresh, Set, Value};
+use crate::front::{Read, first, name_at, stuck, symbol_at};
+use crate::rest::Rest;
+use plc_lex::{Keyword, Symbol, TokenKind};
+
+/// A place, from after its name.
+pub fn place_of_name_at<'a>(name: &'a [u8], rest: Rest<'a>) -> Read<'a, Place<'a>>
+    ensures { Gives place_tree result (place_of_name name.now rest.entry.at (kinds rest.entry.tokens.now)) }
+{
+    match first(rest) {
+        Some((TokenKind::Symbol(Symbol::Dot), after)) => {
+            let (field, after) = name_at(after)?;
+            let field = Some(field);
+            Ok((Place { name, field }, after))
+        }
+        _ => Ok((Place { name, field: None }, rest)),
+    }
+}
+
+/// A name, or a field of what it points to.
+pub fn place_at<'a>(rest: Rest<'a>) -> Read<'a, Place<'a>>
+    ensures { Gives place_tree result (place_of rest.entry.at (kinds rest.entry.tokens.now)) }
+{
+    let (name, after) = name_at(rest)?;
+    place_of_name_at(name, after)
+}
+
+/// What is put into a name.
+pub fn value_at<'a>(rest: Rest<'a>) -> Read<'a, Value<'a>>
+    ensures { Gives value_tree result (value_of rest.entry.at (kinds rest.entry.tokens.now)) }
+{
+    match first(rest) {
+        Some((TokenKind::Word(Keyword::Null), after)) => Ok((Value::Null, after)),
+        Some((TokenKind::Word(Keyword::New), after)) => Ok((Value::New, after)),
+        Some((TokenKind::Number(n), after)) => Ok((Value::Number(*n), after)),
+        Some((TokenKind::Word(Keyword::Mark), after)) => {
+            let (name, after) = name_at(after)?;
+            Ok((Value::Mark(name), after))
+        }
+        Some((TokenKind::Word(Keyword::Unmark), after)) => {
+            let (name, after) = name_at(after)?;
+            Ok((Value::Unmark(name), after))
+        }
+        Some((TokenKind::Name(name), after)) => {
+            let (place, after) = place_of_name_at(name.as_slice(), after)?;
+            Ok((Value::Place(place), after))
+        }
+        _ => Err(stuck(rest)),
+    }
+}
+
+/// What is put into a field, or compared with a name.
+pub fn atom_at<'a>(rest: Rest<'a>) -> Read<'a, Atom<'a>>
+    ensures { Gives atom_tree result (atom_of rest.entry.at (kinds rest.entry.tokens.now)) }
+{
+    match first(rest) {
+        Some((TokenKind::Word(Keyword::Null), after)) => Ok((Atom::Null, after)),
+        Some((TokenKind::Number(n), after)) => Ok((Atom::Number(*n), after)),
+        Some((TokenKind::Name(name), after)) => Ok((Atom::Name(name.as_slice()), after)),
+        _ => Err(stuck(rest)),
+    }
+}
+
+/// What is put into an auxiliary field.
+pub fn ghost_value_at<'a>(rest: Rest<'a>) -> Read<'a, GhostValue<'a>>
+    ensures { Gives ghost_value_tree result (ghost_value_of rest.entry.at (kinds rest.entry.tokens.now)) }
+{
+    match first(rest) {
+        Some((TokenKind::Name(name), after)) => Ok((GhostValue::Name(name.as_slice()), after)),
+        Some((TokenKind::Word(Keyword::Me), after)) => Ok((GhostValue::Me, after)),
+        Some((TokenKind::Word(Keyword::None), after)) => Ok((GhostValue::None, after)),
+        _ => Err(stuck(rest)),
+    }
+}
+
+/// What follows a name, a dot and a field on the left.
+pub fn field_tail_at<'a>(name: &'a [u8], field: &'a [u8], rest: Rest<'a>) -> Read<'a, Primitive<'a>>
+    ensures { Gives primitive_tree result
+        (field_tail_of name.now field.now rest.entry.at (kinds rest.entry.tokens.now)) }
+{
+    match first(rest) {
+        Some((TokenKind::Symbol(Symbol::Assign), after)) => {
+            let (atom, after) = atom_at(after)?;
+            Ok((Primitive::Set(Set::Field(name, field, atom)), after))
+        }
+        Some((TokenKind::Symbol(Symbol::Refresh), after)) => {
+            let (from, after) = name_at(after)?;
+            Ok((Primitive::Refresh(Refresh::Field(name, field, from)), after))
+        }
+        _ => Err(stuck(rest)),
+    }
+}
+
+/// What follows a name on the left.
+pub fn named_tail_at<'a>(name: &'a [u8], rest: Rest<'a>) -> Read<'a, Primitive<'a>>
+    ensures { Gives primitive_tree result (named_tail_of name.now rest.entry.at (kinds rest.entry.tokens.now)) }
+{
+    match first(rest) {
+        Some((TokenKind::Symbol(Symbol::Assign), after)) => {
+            let (value, after) = value_at(after)?;
+            Ok((Primitive::Set(Set::Name(name, value)), after))
+        }
+        Some((TokenKind::Symbol(Symbol::Refresh), after)) => {
+            let (place, after) = place_at(after)?;
+            Ok((Primitive::Refresh(Refresh::Name(name, place)), after))
+        }
+        Some((TokenKind::Symbol(Symbol::Dot), after)) => {
+            let (field, after) = name_at(after)?;
+            field_tail_at(name, field, after)
+        }
+        _ => Err(stuck(rest)),
+    }
+}
+
+/// An assignment to an auxiliary field, from after its word.
+pub fn ghost_set_at<'a>(rest: Rest<'a>) -> Read<'a, GhostSet<'a>>
+    ensures { Gives ghost_set_tree result (ghost_set_of rest.entry.at (kinds rest.entry.tokens.now)) }
+{
+    let (name, after) = name_at(rest)?;
+    let after = symbol_at(after, Symbol::Dot)?;
+    let (field, after) = name_at(after)?;
+    let after = symbol_at(after, Symbol::Assign)?;
+    let (value, after) = ghost_value_at(after)?;
+    Ok((GhostSet { name, field, value }, after))
+}
+
+/// A primitive, without its semicolon.
+pub fn primitive_at<'a>(rest: Rest<'a>) -> Read<'a, Primitive<'a>>
+    ensures { Gives primitive_tree result (primitive_of rest.entry.at (kinds rest.entry.tokens.now)) }
+{
+    match first(rest) {
+        Some((TokenKind::Name(name), after)) => named_tail_at(name.as_slice(), after),
+        Some((TokenKind::Word(Keyword::Ghost), after)) => {
+            let (set, after) = ghost_set_at(after)?;
+            Ok((Primitive::Ghost(set), after))
+        }
+        Some((TokenKind::Word(Keyword::Active), after)) => {
+            let (name, after) = name_at(after)?;
+            Ok((Primitive::Active(name), after))
+        }
+        Some((TokenKind::Word(Keyword::Assume), after)) => {
+            let (test, after) = test_at(after)?;
+            Ok((Primitive::Assume(test), after))
+        }
+        Some((TokenKind::Word(Keyword::Skip), after)) => Ok((Primitive::Skip, after)),
+        _ => Err(stuck(rest)),
+    }
+}
+
+/// A primitive and its semicolon.
+pub fn primitive_line_at<'a>(rest: Rest<'a>) -> Read<'a, Primitive<'a>>
+    ensures { Gives primitive_tree result (primitive_line_of rest.entry.at (kinds rest.entry.tokens.now)) }
+{
+    let (primitive, after) = primitive_at(rest)?;
+    Ok((primitive, symbol_at(after, Symbol::Semicolon)?))
+}
+
+/// What stands between the parentheses of a call.
+pub fn argument_at<'a>(rest: Rest<'a>) -> Read<'a, Argument<'a>>
+    ensures { Gives argument_tree result (argument_of rest.entry.at (kinds rest.entry.tokens.now)) }
+{
+    match first(rest) {
+        Some((TokenKind::Word(Keyword::Null), after)) => Ok((Argument::Null, after)),
+        Some((TokenKind::Name(name), after)) => Ok((Argument::Name(name.as_slice()), after)),
+        Some((TokenKind::Word(Keyword::Active), after)) => {
+            let (name, after) = name_at(after)?;
+            Ok((Argument::Active(name), after))
+        }
+        _ => Ok((Argument::None, rest)),
+    }
+}
+
+/// The label between a call and its return, which may be left out.
+pub fn during_at<'a>(rest: Rest<'a>) -> Read<'a, Option<&'a [u8]>>
+    ensures { Gives text_or_none result (during_of rest.entry.at (kinds rest.entry.tokens.now)) }
+{
+    match first(rest) {
+        Some((TokenKind::Word(Keyword::During), after)) => {
+            let (name, after) = name_at(after)?;
+            Ok((Some(name), after))
+        }
+        _ => Ok((None, rest)),
+    }
+}

@@ -1,0 +1,33 @@
+-- A block within a statement is smaller than the block in which the statement stands.
+use Rattle.std.specs.Prelude.{◌+◌, ◌≤◌, List, [], ◌∷◌, Some, None}
+use Rattle.std.proofs.Common.{arith}
+use denote.Param.Weighed.{most}
+use Rattle.plc_syntax.specs.Trees.{BlockTree}
+use Rattle.plc_tree.specs.declared.tree.Stmt.{Stmt}
+use Rattle.plc_tree.specs.declared.tree.Stmt.TheVariants as stmts
+use Rattle.plc_tree.specs.declared.tree.Block.TheDeep.{deep-Stmt}
+use Rattle.plc_tree.specs.Postorder.{statement_size, block_size, ors_size}
+use Rattle.plc_tree.specs.Views.{statement_tree, block_tree, ors_tree}
+
+-- no further block of a choice is larger than the choice
+choice_falls : (bs : List BlockTree) → most (λ b. block_size b + 1) bs ≤ 1 + ors_size (ors_tree bs)
+choice_falls [] = omega arith
+choice_falls (b ∷ bs) = omega (arith, choice_falls bs)
+
+-- no block of a statement is larger than the statement
+statement_falls : (s : Stmt) → deep-Stmt s ≤ statement_size (statement_tree s)
+statement_falls (stmts.Primitive p) = omega arith
+statement_falls (stmts.Atomic ps) = omega arith
+statement_falls (stmts.Call f a d) = omega arith
+statement_falls (stmts.If c b None) = omega arith
+statement_falls (stmts.If c b (Some e)) = omega arith
+statement_falls (stmts.Choose a b os) = omega (arith, choice_falls os.items)
+statement_falls (stmts.Loop b) = omega arith
+statement_falls stmts.Break = omega arith
+statement_falls stmts.Return = omega arith
+statement_falls (stmts.Label n) = omega arith
+
+-- no block of a statement is larger than the statements
+pub statements_fall : (ss : List Stmt) → most deep-Stmt ss ≤ block_size (block_tree ss)
+statements_fall [] = omega arith
+statements_fall (s ∷ ss) = omega (arith, statement_falls s, statements_fall ss)

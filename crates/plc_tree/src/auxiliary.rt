@@ -1,0 +1,83 @@
+// Auxiliary fields, and the init block.
+ghost use Rattle.std.specs.Prelude.{map};
+ghost use Rattle.plc_syntax.specs.Syntax.{kinds};
+ghost use Rattle.plc_syntax.specs.Views.{initial_tree};
+ghost use Rattle.plc_syntax.specs.Answers.{Gives};
+ghost use Rattle.plc_tree.specs.Forms.{values_of, ghost_kind_of, ghost_tail_of, ghost_of, init_tail_of, init_of};
+ghost use Rattle.plc_tree.specs.FormViews.{kind_tree, auxiliary_tree, starts_tree};
+
+use crate::form::{Auxiliary, AuxiliaryKind};
+use crate::list::list_at;
+use plc_base::Items;
+use plc_lex::{Keyword, Symbol, TokenKind};
+use plc_syntax::{Initial, Read, Rest, first, name_at, stuck, symbol_at};
+use std::alloc::Global;
+
+/// The values of an auxiliary field, from after the opening brace.
+fn values_at<'a>(alloc: Global, most: usize, rest: Rest<'a>) -> Read<'a, AuxiliaryKind<'a>>
+    ensures { Gives kind_tree result (values_of most rest.entry.at (kinds rest.entry.tokens.now)) }
+{
+    let (first, after) = name_at(rest)?;
+    let (others, after) = list_at(alloc, most, after)?;
+    let after = symbol_at(after, Symbol::CloseBrace)?;
+    Ok((AuxiliaryKind::OneOf(first, others), after))
+}
+
+/// What an auxiliary field holds.
+fn ghost_kind_at<'a>(alloc: Global, most: usize, rest: Rest<'a>) -> Read<'a, AuxiliaryKind<'a>>
+    ensures { Gives kind_tree result (ghost_kind_of most rest.entry.at (kinds rest.entry.tokens.now)) }
+{
+    match first(rest) {
+        Some((TokenKind::Symbol(Symbol::OpenBrace), after)) => values_at(alloc, most, after),
+        Some((TokenKind::Word(Keyword::Thread), after)) => Ok((AuxiliaryKind::OfThreads, after)),
+        _ => Err(stuck(rest)),
+    }
+}
+
+/// An auxiliary field, from after its word.
+fn ghost_tail_at<'a>(alloc: Global, most: usize, rest: Rest<'a>) -> Read<'a, Auxiliary<'a>>
+    ensures { Gives auxiliary_tree result (ghost_tail_of most rest.entry.at (kinds rest.entry.tokens.now)) }
+{
+    let (name, after) = name_at(rest)?;
+    let (kind, after) = ghost_kind_at(alloc, most, after)?;
+    let after = symbol_at(after, Symbol::Semicolon)?;
+    Ok((Auxiliary { name, kind }, after))
+}
+
+/// An auxiliary field.
+pub fn ghost_at<'a>(alloc: Global, most: usize, rest: Rest<'a>) -> Read<'a, Auxiliary<'a>>
+    ensures { Gives auxiliary_tree result (ghost_of most rest.entry.at (kinds rest.entry.tokens.now)) }
+{
+    match first(rest) {
+        Some((TokenKind::Word(Keyword::Ghost), after)) => ghost_tail_at(alloc, most, after),
+        _ => Err(stuck(rest)),
+    }
+}
+
+/// The init block, from after its word.
+fn init_tail_at<'a>(alloc: Global, most: usize, rest: Rest<'a>) -> Read<'a, Items<Initial<'a>>>
+    ensures { Gives (λ is. map initial_tree is) result
+        (init_tail_of most rest.entry.at (kinds rest.entry.tokens.now)) }
+{
+    let after = symbol_at(rest, Symbol::OpenBrace)?;
+    let (sets, after) = list_at(alloc, most, after)?;
+    let after = symbol_at(after, Symbol::CloseBrace)?;
+    Ok((sets, after))
+}
+
+/// The init block, which may be left out.
+pub fn init_at<'a>(
+    alloc: Global,
+    most: usize,
+    rest: Rest<'a>,
+) -> Read<'a, Option<Items<Initial<'a>>>>
+    ensures { Gives starts_tree result (init_of most rest.entry.at (kinds rest.entry.tokens.now)) }
+{
+    match first(rest) {
+        Some((TokenKind::Word(Keyword::Init), after)) => {
+            let (sets, after) = init_tail_at(alloc, most, after)?;
+            Ok((Some(sets), after))
+        }
+        _ => Ok((None, rest)),
+    }
+}

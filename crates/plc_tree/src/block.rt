@@ -1,0 +1,204 @@
+// Blocks, and the statements that hold blocks. Each statement takes a token, so fewer stand after and
+// within one another than there are tokens: `most` is above that number, and ends the recursion. How
+// deep blocks are nested is judged before, on the tokens, so that the recursion is 66 deep at most: the body of
+// an operation, 64 blocks within it, and the one that stands too deep.
+ghost use Rattle.std.specs.Prelude.{◌≡◌};
+ghost use Rattle.plc_syntax.specs.Syntax.{kinds};
+ghost use Rattle.plc_syntax.specs.Forms.{first_is};
+ghost use Rattle.plc_syntax.specs.Answers.{Gives};
+ghost use Rattle.plc_tree.specs.Forms.{begins_statement, begins_or, braced_of, loop_of, else_of, if_of, or_block_of};
+ghost use Rattle.plc_tree.specs.Forms.{ors_of, choose_of, statement_of, statements_of, block_of};
+ghost use Rattle.plc_tree.specs.Views.{statement_tree, else_tree, ors_tree};
+
+use crate::statement::{atomic_at, ended_at, label_at, named_statement_at, primitive_statement_at};
+use crate::tree::{Block, Stmt};
+use plc_lex::{Keyword, Symbol, TokenKind};
+use plc_syntax::{Read, Rest, condition_at, first, stuck, symbol_at, word_at};
+use std::alloc::Global;
+
+/// Whether a statement begins with a word.
+fn is_statement_word(word: Keyword) -> bool
+    ensures { result ≡ begins_statement (TokenKind.Word word) }
+{
+    matches!(
+        word,
+        Keyword::Atomic
+            | Keyword::If
+            | Keyword::Choose
+            | Keyword::Loop
+            | Keyword::Break
+            | Keyword::Return
+            | Keyword::Label
+            | Keyword::Ghost
+            | Keyword::Active
+            | Keyword::Assume
+            | Keyword::Skip
+    )
+}
+
+/// Whether a statement begins at the front.
+fn begins_statement<'a>(rest: Rest<'a>) -> bool
+    ensures { result ≡ first_is begins_statement (kinds rest.entry.tokens.now) }
+{
+    match first(rest) {
+        Some((TokenKind::Word(word), _)) => is_statement_word(*word),
+        Some((TokenKind::Name(_), _)) => true,
+        _ => false,
+    }
+}
+
+/// Whether a further block of a choice begins at the front.
+fn begins_or<'a>(rest: Rest<'a>) -> bool
+    ensures { result ≡ first_is begins_or (kinds rest.entry.tokens.now) }
+{
+    matches!(first(rest), Some((TokenKind::Word(Keyword::Or), _)))
+}
+
+/// What stands after an opening brace, with the closing one.
+#[cycle(block)]
+pub fn block_at<'a>(alloc: Global, most: usize, rest: Rest<'a>) -> Read<'a, Block<'a>>
+    ensures { Gives (λ b. b) result (block_of most rest.entry.at (kinds rest.entry.tokens.now)) }
+{
+    let (block, after) = statements_at(alloc, most, rest)?;
+    match symbol_at(after, Symbol::CloseBrace) {
+        Ok(after) => Ok((block, after)),
+        Err(fault) => Err(fault),
+    }
+}
+
+/// A block with its opening brace.
+#[cycle(block)]
+fn braced_at<'a>(alloc: Global, most: usize, rest: Rest<'a>) -> Read<'a, Block<'a>>
+    ensures { Gives (λ b. b) result
+        (braced_of (block_of most) rest.entry.at (kinds rest.entry.tokens.now)) }
+{
+    block_at(alloc, most, symbol_at(rest, Symbol::OpenBrace)?)
+}
+
+/// A loop, from after its word.
+#[cycle(block)]
+#[tactic(auto, unfolding(crate::specs::Forms::loop_of))]
+fn loop_at<'a>(alloc: Global, most: usize, rest: Rest<'a>) -> Read<'a, Stmt<'a>>
+    ensures { Gives statement_tree result (loop_of (block_of most) rest.entry.at (kinds rest.entry.tokens.now)) }
+{
+    let (block, after) = braced_at(alloc, most, rest)?;
+    Ok((Stmt::Loop(block), after))
+}
+
+/// An `else` and its block, which may be left out.
+#[cycle(block)]
+#[tactic(auto, unfolding(crate::specs::Forms::else_of))]
+fn else_at<'a>(alloc: Global, most: usize, rest: Rest<'a>) -> Read<'a, Option<Block<'a>>>
+    ensures { Gives else_tree result (else_of (block_of most) rest.entry.at (kinds rest.entry.tokens.now)) }
+{
+    match first(rest) {
+        Some((TokenKind::Word(Keyword::Else), after)) => {
+            let (block, after) = braced_at(alloc, most, after)?;
+            Ok((Some(block), after))
+        }
+        _ => Ok((None, rest)),
+    }
+}
+
+/// An `if`, from after its word.
+#[cycle(block)]
+#[tactic(auto, unfolding(crate::specs::Forms::if_of))]
+fn if_at<'a>(alloc: Global, most: usize, rest: Rest<'a>) -> Read<'a, Stmt<'a>>
+    ensures { Gives statement_tree result (if_of (block_of most) rest.entry.at (kinds rest.entry.tokens.now)) }
+{
+    let after = symbol_at(rest, Symbol::OpenParen)?;
+    let (condition, after) = condition_at(after)?;
+    let after = symbol_at(after, Symbol::CloseParen)?;
+    let (yes, after) = braced_at(alloc, most, after)?;
+    let (no, after) = else_at(alloc, most, after)?;
+    let branch = Stmt::If { condition, yes, no };
+    Ok((branch, after))
+}
+
+/// A further block of a choice.
+#[cycle(block)]
+fn or_block_at<'a>(alloc: Global, most: usize, rest: Rest<'a>) -> Read<'a, Block<'a>>
+    ensures { Gives (λ b. b) result
+        (or_block_of (block_of most) rest.entry.at (kinds rest.entry.tokens.now)) }
+{
+    match first(rest) {
+        Some((TokenKind::Word(Keyword::Or), after)) => braced_at(alloc, most, after),
+        _ => Err(stuck(rest)),
+    }
+}
+
+/// The blocks of a choice after its second.
+#[cycle(block)]
+fn ors_at<'a>(alloc: Global, most: usize, start: Rest<'a>) -> Read<'a, Vec<Block<'a>>>
+    ensures { Gives (λ bs. ors_tree bs.items) result
+        (ors_of most start.entry.at (kinds start.entry.tokens.now)) }
+{
+    let mut others = Vec::new(alloc);
+    let mut rest = start;
+    for i in 0..most {
+        if !begins_or(rest) {
+            return Ok((others, rest));
+        }
+        let (block, after) = or_block_at(alloc, most - 1 - i, rest)?;
+        others.push(block)?;
+        rest = after;
+    }
+    Err(stuck(rest))
+}
+
+/// A choice, from after its word.
+#[cycle(block)]
+#[tactic(auto, unfolding(crate::specs::Forms::choose_of))]
+fn choose_at<'a>(alloc: Global, most: usize, rest: Rest<'a>) -> Read<'a, Stmt<'a>>
+    ensures { Gives statement_tree result
+        (choose_of (block_of most) (ors_of most) rest.entry.at (kinds rest.entry.tokens.now)) }
+{
+    let (first, after) = braced_at(alloc, most, rest)?;
+    let after = word_at(after, Keyword::Or)?;
+    let (second, after) = braced_at(alloc, most, after)?;
+    let (others, after) = ors_at(alloc, most, after)?;
+    let choice = Stmt::Choose {
+        first,
+        second,
+        others,
+    };
+    Ok((choice, after))
+}
+
+/// A statement; at most so many stand within it.
+#[cycle(block)]
+#[tactic(auto, unfolding(crate::specs::Forms::statement_of))]
+fn statement_at<'a>(alloc: Global, most: usize, rest: Rest<'a>) -> Read<'a, Stmt<'a>>
+    ensures { Gives statement_tree result
+        (statement_of (block_of most) (ors_of most) most rest.entry.at (kinds rest.entry.tokens.now)) }
+{
+    match first(rest) {
+        Some((TokenKind::Name(name), after)) => named_statement_at(name.as_slice(), after),
+        Some((TokenKind::Word(Keyword::Atomic), after)) => atomic_at(alloc, most, after),
+        Some((TokenKind::Word(Keyword::If), after)) => if_at(alloc, most, after),
+        Some((TokenKind::Word(Keyword::Choose), after)) => choose_at(alloc, most, after),
+        Some((TokenKind::Word(Keyword::Loop), after)) => loop_at(alloc, most, after),
+        Some((TokenKind::Word(Keyword::Break), after)) => ended_at(Stmt::Break, after),
+        Some((TokenKind::Word(Keyword::Return), after)) => ended_at(Stmt::Return, after),
+        Some((TokenKind::Word(Keyword::Label), after)) => label_at(after),
+        _ => primitive_statement_at(rest),
+    }
+}
+
+/// Statements; at most so many after and within one another.
+#[cycle(block)]
+fn statements_at<'a>(alloc: Global, most: usize, start: Rest<'a>) -> Read<'a, Block<'a>>
+    ensures { Gives (λ b. b) result (statements_of most start.entry.at (kinds start.entry.tokens.now)) }
+{
+    let mut stmts = Vec::new(alloc);
+    let mut rest = start;
+    for i in 0..most {
+        if !begins_statement(rest) {
+            return Ok((Block::new(stmts), rest));
+        }
+        let (stmt, after) = statement_at(alloc, most - 1 - i, rest)?;
+        stmts.push(stmt)?;
+        rest = after;
+    }
+    Err(stuck(rest))
+}

@@ -1,0 +1,27 @@
+// Clauses of an outline.
+ghost use Rattle.plc_syntax.specs.Syntax.{kinds};
+ghost use Rattle.plc_syntax.specs.Answers.{Gives};
+ghost use Rattle.plc_tree.specs.Forms.{clause_of};
+ghost use Rattle.plc_tree.specs.FormViews.{clause_tree};
+
+use crate::form::Clause;
+use crate::list::list_at;
+use plc_lex::Symbol;
+use plc_syntax::{Read, Rest, bound_at, literal_at, symbol_at};
+use std::alloc::Global;
+
+/// A clause and its semicolon.
+pub fn clause_at<'a>(alloc: Global, most: usize, rest: Rest<'a>) -> Read<'a, Clause<'a>>
+    ensures { Gives clause_tree result (clause_of most rest.entry.at (kinds rest.entry.tokens.now)) }
+{
+    let (bound, after) = bound_at(rest)?;
+    let (first, after) = literal_at(after)?;
+    let (others, after) = list_at(alloc, most, after)?;
+    let after = symbol_at(after, Symbol::Semicolon)?;
+    let clause = Clause {
+        bound,
+        first,
+        others,
+    };
+    Ok((clause, after))
+}

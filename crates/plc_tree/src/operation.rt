@@ -1,0 +1,78 @@
+// An operation.
+ghost use Rattle.plc_syntax.specs.Syntax.{kinds};
+ghost use Rattle.plc_syntax.specs.Answers.{Gives};
+ghost use Rattle.plc_tree.specs.Forms.{parameters_of, op_tail_of, op_of};
+ghost use Rattle.plc_tree.specs.FileViews.{parameters_names, operation_tree};
+
+use crate::block::block_at;
+use crate::list::list_at;
+use crate::tree::Block;
+use plc_base::Items;
+use plc_lex::{Keyword, Symbol, TokenKind};
+use plc_syntax::{Declaration, Read, Rest, first, name_at, stuck, symbol_at};
+use std::alloc::Global;
+
+/// The parameters of an operation, of which there may be none.
+#[derive(Drop)]
+pub enum Parameters<'a> {
+    /// None.
+    None,
+    /// The first, and the others.
+    Some(&'a [u8], Items<&'a [u8]>),
+}
+
+/// An operation.
+#[derive(Drop)]
+pub struct Operation<'a> {
+    /// How it is called.
+    pub name: &'a [u8],
+    /// Its parameters.
+    pub parameters: Parameters<'a>,
+    /// What it declares before its statements.
+    pub locals: Items<Declaration<'a>>,
+    /// Its statements.
+    pub body: Block<'a>,
+}
+
+/// The parameters of an operation.
+fn parameters_at<'a>(alloc: Global, most: usize, rest: Rest<'a>) -> Read<'a, Parameters<'a>>
+    ensures { Gives parameters_names result (parameters_of most rest.entry.at (kinds rest.entry.tokens.now)) }
+{
+    match first(rest) {
+        Some((TokenKind::Name(name), after)) => {
+            let (others, after) = list_at(alloc, most, after)?;
+            Ok((Parameters::Some(name.as_slice(), others), after))
+        }
+        _ => Ok((Parameters::None, rest)),
+    }
+}
+
+/// An operation, from after its word.
+fn op_tail_at<'a>(alloc: Global, most: usize, rest: Rest<'a>) -> Read<'a, Operation<'a>>
+    ensures { Gives operation_tree result (op_tail_of most rest.entry.at (kinds rest.entry.tokens.now)) }
+{
+    let (name, after) = name_at(rest)?;
+    let after = symbol_at(after, Symbol::OpenParen)?;
+    let (parameters, after) = parameters_at(alloc, most, after)?;
+    let after = symbol_at(after, Symbol::CloseParen)?;
+    let after = symbol_at(after, Symbol::OpenBrace)?;
+    let (locals, after) = list_at(alloc, most, after)?;
+    let (body, after) = block_at(alloc, most, after)?;
+    let operation = Operation {
+        name,
+        parameters,
+        locals,
+        body,
+    };
+    Ok((operation, after))
+}
+
+/// An operation.
+pub fn op_at<'a>(alloc: Global, most: usize, rest: Rest<'a>) -> Read<'a, Operation<'a>>
+    ensures { Gives operation_tree result (op_of most rest.entry.at (kinds rest.entry.tokens.now)) }
+{
+    match first(rest) {
+        Some((TokenKind::Word(Keyword::Op), after)) => op_tail_at(alloc, most, after),
+        _ => Err(stuck(rest)),
+    }
+}

@@ -1,0 +1,99 @@
+// Items, and the outline.
+ghost use Rattle.std.specs.Prelude.{◌≡◌, ◌<◌, ◌^◌, length, IfOk, IfErr};
+ghost use Rattle.plc_syntax.specs.Syntax.{kinds};
+ghost use Rattle.plc_syntax.specs.Trees.{outline_then};
+ghost use Rattle.plc_syntax.specs.Answers.{Gives};
+ghost use Rattle.plc_tree.specs.Forms.{over_of, at_of, item_of, outline_tail_of, outline_of, outlined_of};
+ghost use Rattle.plc_tree.specs.FormViews.{item_tree, outline_tree, outlined_tree};
+ghost use Rattle.plc_tree.specs.Whole.{OutlineStops};
+
+use crate::clause::clause_at;
+use crate::form::{Item, Outline};
+use crate::list::list_at;
+use plc_lex::{Keyword, Symbol, Token, TokenKind};
+use plc_syntax::{Fault, Read, Rest, depth_at, first, name_at, stuck, symbol_at, word_at};
+use std::alloc::Global;
+
+/// An item over an operation, from after its word.
+fn over_item_at<'a>(alloc: Global, most: usize, rest: Rest<'a>) -> Read<'a, Item<'a>>
+    ensures { Gives item_tree result (over_of most rest.entry.at (kinds rest.entry.tokens.now)) }
+{
+    let (name, after) = name_at(rest)?;
+    let after = symbol_at(after, Symbol::Colon)?;
+    let (clause, after) = clause_at(alloc, most, after)?;
+    Ok((Item::Over(name, clause), after))
+}
+
+/// An item at labels, from after its word.
+fn at_item_at<'a>(alloc: Global, most: usize, rest: Rest<'a>) -> Read<'a, Item<'a>>
+    ensures { Gives item_tree result (at_of most rest.entry.at (kinds rest.entry.tokens.now)) }
+{
+    let (name, after) = name_at(rest)?;
+    let (others, after) = list_at(alloc, most, after)?;
+    let after = symbol_at(after, Symbol::Colon)?;
+    let (clause, after) = clause_at(alloc, most, after)?;
+    Ok((Item::At(name, others, clause), after))
+}
+
+/// An item.
+pub fn item_at<'a>(alloc: Global, most: usize, rest: Rest<'a>) -> Read<'a, Item<'a>>
+    ensures { Gives item_tree result (item_of most rest.entry.at (kinds rest.entry.tokens.now)) }
+{
+    match first(rest) {
+        Some((TokenKind::Word(Keyword::Inv), after)) => {
+            let (clause, after) = clause_at(alloc, most, after)?;
+            Ok((Item::Invariant(clause), after))
+        }
+        Some((TokenKind::Word(Keyword::Over), after)) => over_item_at(alloc, most, after),
+        Some((TokenKind::Word(Keyword::At), after)) => at_item_at(alloc, most, after),
+        _ => Err(stuck(rest)),
+    }
+}
+
+/// An outline, from after its word.
+fn outline_tail_at<'a>(alloc: Global, most: usize, rest: Rest<'a>) -> Read<'a, Outline<'a>>
+    ensures { Gives outline_tree result (outline_tail_of most rest.entry.at (kinds rest.entry.tokens.now)) }
+{
+    let after = symbol_at(rest, Symbol::OpenBrace)?;
+    let (depth, after) = depth_at(after)?;
+    let (items, after) = list_at(alloc, most, after)?;
+    let after = symbol_at(after, Symbol::CloseBrace)?;
+    Ok((Outline { depth, items }, after))
+}
+
+/// An outline.
+fn outline_at<'a>(alloc: Global, most: usize, rest: Rest<'a>) -> Read<'a, Outline<'a>>
+    ensures { Gives outline_tree result (outline_of most rest.entry.at (kinds rest.entry.tokens.now)) }
+{
+    outline_tail_at(alloc, most, word_at(rest, Keyword::Outline)?)
+}
+
+/// The outline at the front of tokens, and the tokens after its closing brace, whatever they are. Where
+/// none stands there the fault is `Syntax`, at the least token with which none begins any more, or
+/// after the last one where the tokens begin an outline.
+pub fn outline_tree<'a>(
+    alloc: Global,
+    tokens: &'a [Token],
+) -> Result<(Outline<'a>, &'a [Token]), Fault>
+    requires { length tokens.now < 2 ^ 32 }
+    ensures tree { IfOk result (λ r. kinds tokens.now ≡ outline_then (outline_tree r.0) (kinds r.1.now)) }
+    ensures fault { IfErr result (OutlineStops (kinds tokens.now)) }
+{
+    match outline_at(alloc, tokens.len() + 1, Rest { tokens, at: 0 }) {
+        Ok((outline, rest)) => Ok((outline, rest.tokens)),
+        Err(fault) => Err(fault),
+    }
+}
+
+/// An outline, which may be left out.
+pub fn outlined_at<'a>(alloc: Global, most: usize, rest: Rest<'a>) -> Read<'a, Option<Outline<'a>>>
+    ensures { Gives outlined_tree result (outlined_of most rest.entry.at (kinds rest.entry.tokens.now)) }
+{
+    match first(rest) {
+        Some((TokenKind::Word(Keyword::Outline), after)) => {
+            let (outline, after) = outline_tail_at(alloc, most, after)?;
+            Ok((Some(outline), after))
+        }
+        _ => Ok((None, rest)),
+    }
+}

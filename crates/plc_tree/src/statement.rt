@@ -1,0 +1,79 @@
+// Statements that hold no blocks of statements.
+ghost use Rattle.plc_syntax.specs.Syntax.{kinds};
+ghost use Rattle.plc_syntax.specs.Answers.{Gives};
+ghost use Rattle.plc_tree.specs.Forms.{call_of, named_statement_of, atomic_of, ended_of, label_of, step_of};
+ghost use Rattle.plc_tree.specs.Views.{statement_tree};
+
+use crate::list::list_at;
+use crate::tree::Stmt;
+use plc_lex::{Symbol, TokenKind};
+use plc_syntax::{
+    Read, Rest, argument_at, during_at, first, name_at, named_tail_at, primitive_line_at, symbol_at,
+};
+use std::alloc::Global;
+
+/// A call, from after its opening parenthesis.
+fn call_at<'a>(name: &'a [u8], rest: Rest<'a>) -> Read<'a, Stmt<'a>>
+    ensures { Gives statement_tree result (call_of name.now rest.entry.at (kinds rest.entry.tokens.now)) }
+{
+    let (argument, after) = argument_at(rest)?;
+    let after = symbol_at(after, Symbol::CloseParen)?;
+    let (during, after) = during_at(after)?;
+    let after = symbol_at(after, Symbol::Semicolon)?;
+    let call = Stmt::Call {
+        name,
+        argument,
+        during,
+    };
+    Ok((call, after))
+}
+
+/// A call or a primitive, from after the name with which it begins.
+pub fn named_statement_at<'a>(name: &'a [u8], rest: Rest<'a>) -> Read<'a, Stmt<'a>>
+    ensures { Gives statement_tree result
+        (named_statement_of name.now rest.entry.at (kinds rest.entry.tokens.now)) }
+{
+    if let Some((TokenKind::Symbol(Symbol::OpenParen), after)) = first(rest) {
+        return call_at(name, after);
+    }
+    let (primitive, after) = named_tail_at(name, rest)?;
+    let after = symbol_at(after, Symbol::Semicolon)?;
+    Ok((Stmt::Primitive(primitive), after))
+}
+
+/// An atomic block, from after its word; at most so many primitives.
+pub fn atomic_at<'a>(alloc: Global, most: usize, rest: Rest<'a>) -> Read<'a, Stmt<'a>>
+    ensures { Gives statement_tree result (atomic_of most rest.entry.at (kinds rest.entry.tokens.now)) }
+{
+    let after = symbol_at(rest, Symbol::OpenBrace)?;
+    let (primitives, after) = list_at(alloc, most, after)?;
+    let after = symbol_at(after, Symbol::CloseBrace)?;
+    Ok((Stmt::Atomic(primitives), after))
+}
+
+/// A statement and its semicolon, from after its word.
+pub fn ended_at<'a>(stmt: Stmt<'a>, rest: Rest<'a>) -> Read<'a, Stmt<'a>>
+    ensures { Gives statement_tree result
+        (ended_of (statement_tree stmt.entry) rest.entry.at (kinds rest.entry.tokens.now)) }
+{
+    match symbol_at(rest, Symbol::Semicolon) {
+        Ok(after) => Ok((stmt, after)),
+        Err(fault) => Err(fault),
+    }
+}
+
+/// A label, from after its word.
+pub fn label_at<'a>(rest: Rest<'a>) -> Read<'a, Stmt<'a>>
+    ensures { Gives statement_tree result (label_of rest.entry.at (kinds rest.entry.tokens.now)) }
+{
+    let (name, after) = name_at(rest)?;
+    ended_at(Stmt::Label(name), after)
+}
+
+/// A primitive as a statement.
+pub fn primitive_statement_at<'a>(rest: Rest<'a>) -> Read<'a, Stmt<'a>>
+    ensures { Gives statement_tree result (step_of rest.entry.at (kinds rest.entry.tokens.now)) }
+{
+    let (primitive, after) = primitive_line_at(rest)?;
+    Ok((Stmt::Primitive(primitive), after))
+}
