@@ -9,6 +9,7 @@ use crate::form::{Bound, Flag, Literal, Term};
 use crate::front::{Read, first, name_at, number_at, stuck, symbol_at, word_at};
 use crate::rest::Rest;
 use crate::statement::{place_at, place_of_name_at};
+use crate::within;
 use plc_lex::{Keyword, Symbol, TokenKind};
 
 /// A side of an equation.
@@ -20,10 +21,8 @@ pub fn term_at<'a>(rest: Rest<'a>) -> Read<'a, Term<'a>>
         Some((TokenKind::Number(n), after)) => Ok((Term::Number(*n), after)),
         Some((TokenKind::Word(Keyword::Me), after)) => Ok((Term::Me, after)),
         Some((TokenKind::Word(Keyword::None), after)) => Ok((Term::None, after)),
-        Some((TokenKind::Name(name), after)) => {
-            let (place, after) = place_of_name_at(name.as_slice(), after)?;
-            Ok((Term::Place(place), after))
-        }
+        Some((TokenKind::Name(name), after)) =>
+            within!(Term::Place(place); place = place_of_name_at(name.as_slice(), after)),
         _ => Err(stuck(rest)),
     }
 }
@@ -44,9 +43,7 @@ pub fn retired_at<'a>(rest: Rest<'a>) -> Read<'a, Flag<'a>>
     ensures { Gives flag_tree result (retired_of rest.entry.at (kinds rest.entry.tokens.now)) }
 {
     let after = symbol_at(rest, Symbol::OpenParen)?;
-    let (name, after) = name_at(after)?;
-    let after = symbol_at(after, Symbol::CloseParen)?;
-    Ok((Flag::Retired(name), after))
+    within!(Flag::Retired(name); name = name_at(after), CloseParen)
 }
 
 /// "marked" of a place, from after its word.
@@ -54,9 +51,7 @@ pub fn marked_at<'a>(rest: Rest<'a>) -> Read<'a, Flag<'a>>
     ensures { Gives flag_tree result (marked_of rest.entry.at (kinds rest.entry.tokens.now)) }
 {
     let after = symbol_at(rest, Symbol::OpenParen)?;
-    let (place, after) = place_at(after)?;
-    let after = symbol_at(after, Symbol::CloseParen)?;
-    Ok((Flag::Marked(place), after))
+    within!(Flag::Marked(place); place = place_at(after), CloseParen)
 }
 
 /// A flag.
@@ -85,18 +80,12 @@ pub fn literal_at<'a>(rest: Rest<'a>) -> Read<'a, Literal<'a>>
     ensures { Gives literal_tree result (literal_of rest.entry.at (kinds rest.entry.tokens.now)) }
 {
     match first(rest) {
-        Some((TokenKind::Word(Keyword::Not), after)) => {
-            let (flag, after) = flag_at(after)?;
-            Ok((Literal::Not(flag), after))
-        }
-        Some((TokenKind::Word(Keyword::Retired), after)) => {
-            let (flag, after) = retired_at(after)?;
-            Ok((Literal::Flag(flag), after))
-        }
-        Some((TokenKind::Word(Keyword::Marked), after)) => {
-            let (flag, after) = marked_at(after)?;
-            Ok((Literal::Flag(flag), after))
-        }
+        Some((TokenKind::Word(Keyword::Not), after)) =>
+            within!(Literal::Not(flag); flag = flag_at(after)),
+        Some((TokenKind::Word(Keyword::Retired), after)) =>
+            within!(Literal::Flag(flag); flag = retired_at(after)),
+        Some((TokenKind::Word(Keyword::Marked), after)) =>
+            within!(Literal::Flag(flag); flag = marked_at(after)),
         _ => equation_at(rest),
     }
 }
@@ -113,10 +102,8 @@ pub fn second_at<'a>(rest: Rest<'a>) -> Read<'a, Option<&'a [u8]>>
     ensures { Gives text_or_none result (second_of rest.entry.at (kinds rest.entry.tokens.now)) }
 {
     match first(rest) {
-        Some((TokenKind::Symbol(Symbol::Comma), after)) => {
-            let (name, after) = name_at(after)?;
-            Ok((Some(name), after))
-        }
+        Some((TokenKind::Symbol(Symbol::Comma), after)) =>
+            within!(Some(name); name = name_at(after)),
         _ => Ok((None, rest)),
     }
 }
@@ -126,9 +113,7 @@ pub fn all_at<'a>(rest: Rest<'a>) -> Read<'a, Bound<'a>>
     ensures { Gives bound_tree result (all_of rest.entry.at (kinds rest.entry.tokens.now)) }
 {
     let (name, after) = name_at(rest)?;
-    let (second, after) = second_at(after)?;
-    let after = symbol_at(after, Symbol::Colon)?;
-    Ok((Bound::All(name, second), after))
+    within!(Bound::All(name, second); second = second_at(after), Colon)
 }
 
 /// The quantified names of a clause, which may be left out.
@@ -146,11 +131,8 @@ pub fn depth_at<'a>(rest: Rest<'a>) -> Read<'a, Option<u32>>
     ensures { Gives (λ d. d) result (depth_of rest.entry.at (kinds rest.entry.tokens.now)) }
 {
     match first(rest) {
-        Some((TokenKind::Word(Keyword::Depth), after)) => {
-            let (depth, after) = number_at(after)?;
-            let after = symbol_at(after, Symbol::Semicolon)?;
-            Ok((Some(depth), after))
-        }
+        Some((TokenKind::Word(Keyword::Depth), after)) =>
+            within!(Some(depth); depth = number_at(after), Semicolon),
         _ => Ok((None, rest)),
     }
 }

@@ -9,6 +9,7 @@ use crate::form::{Cas, Condition, Relation, Test};
 use crate::front::{Read, first, name_at, stuck, symbol_at};
 use crate::rest::Rest;
 use crate::statement::{atom_at, place_at};
+use crate::within;
 use plc_lex::{Keyword, Symbol, TokenKind};
 
 /// What stands between the sides of a test.
@@ -29,13 +30,7 @@ pub fn compared_at<'a>(name: &'a [u8], rest: Rest<'a>) -> Read<'a, Test<'a>>
     ensures { Gives test_tree result (compared_of name.now rest.entry.at (kinds rest.entry.tokens.now)) }
 {
     let (relation, after) = relation_at(rest)?;
-    let (atom, after) = atom_at(after)?;
-    let test = Test::Compares {
-        name,
-        relation,
-        atom,
-    };
-    Ok((test, after))
+    within!(Test::Compares { name, relation, atom }; atom = atom_at(after))
 }
 
 /// A test.
@@ -43,14 +38,10 @@ pub fn test_at<'a>(rest: Rest<'a>) -> Read<'a, Test<'a>>
     ensures { Gives test_tree result (test_of rest.entry.at (kinds rest.entry.tokens.now)) }
 {
     match first(rest) {
-        Some((TokenKind::Word(Keyword::Marked), after)) => {
-            let (name, after) = name_at(after)?;
-            Ok((Test::Marked(name), after))
-        }
-        Some((TokenKind::Word(Keyword::Unmarked), after)) => {
-            let (name, after) = name_at(after)?;
-            Ok((Test::Unmarked(name), after))
-        }
+        Some((TokenKind::Word(Keyword::Marked), after)) =>
+            within!(Test::Marked(name); name = name_at(after)),
+        Some((TokenKind::Word(Keyword::Unmarked), after)) =>
+            within!(Test::Unmarked(name); name = name_at(after)),
         Some((TokenKind::Name(name), after)) => compared_at(name.as_slice(), after),
         _ => Err(stuck(rest)),
     }
@@ -85,15 +76,7 @@ pub fn cas_at<'a>(is_active: bool, rest: Rest<'a>) -> Read<'a, Cas<'a>>
     let after = symbol_at(after, Symbol::Comma)?;
     let (old, after) = name_or_null_at(after)?;
     let after = symbol_at(after, Symbol::Comma)?;
-    let (new, after) = name_or_null_at(after)?;
-    let after = symbol_at(after, Symbol::CloseParen)?;
-    let cas = Cas {
-        is_active,
-        name,
-        old,
-        new,
-    };
-    Ok((cas, after))
+    within!(Cas { is_active, name, old, new }; new = name_or_null_at(after), CloseParen)
 }
 
 /// A cas, from after its word.
@@ -111,14 +94,9 @@ pub fn named_condition_at<'a>(name: &'a [u8], rest: Rest<'a>) -> Read<'a, Condit
     ensures { Gives condition_tree result (named_condition_of name.now rest.entry.at (kinds rest.entry.tokens.now)) }
 {
     match first(rest) {
-        Some((TokenKind::Symbol(Symbol::Refresh), after)) => {
-            let (place, after) = place_at(after)?;
-            Ok((Condition::Refresh(name, place), after))
-        }
-        _ => {
-            let (test, after) = compared_at(name, rest)?;
-            Ok((Condition::Test(test), after))
-        }
+        Some((TokenKind::Symbol(Symbol::Refresh), after)) =>
+            within!(Condition::Refresh(name, place); place = place_at(after)),
+        _ => within!(Condition::Test(test); test = compared_at(name, rest)),
     }
 }
 
@@ -129,9 +107,6 @@ pub fn condition_at<'a>(rest: Rest<'a>) -> Read<'a, Condition<'a>>
     match first(rest) {
         Some((TokenKind::Word(Keyword::Cas), after)) => cas_condition_at(after),
         Some((TokenKind::Name(name), after)) => named_condition_at(name.as_slice(), after),
-        _ => {
-            let (test, after) = test_at(rest)?;
-            Ok((Condition::Test(test), after))
-        }
+        _ => within!(Condition::Test(test); test = test_at(rest)),
     }
 }

@@ -11,6 +11,7 @@ use crate::form::{Declaration, Function, Initial, Set, Shared, Watch};
 use crate::front::{Read, first, name_at, stuck, symbol_at, word_at};
 use crate::rest::Rest;
 use crate::statement::{atom_at, ghost_set_at, value_at};
+use crate::within;
 use plc_lex::{Keyword, Symbol, TokenKind};
 
 /// A field of the struct or a local.
@@ -18,16 +19,10 @@ pub fn field_at<'a>(rest: Rest<'a>) -> Read<'a, Declaration<'a>>
     ensures { Gives field_tree result (field_of rest.entry.at (kinds rest.entry.tokens.now)) }
 {
     match first(rest) {
-        Some((TokenKind::Word(Keyword::Ptr), after)) => {
-            let (name, after) = name_at(after)?;
-            let after = symbol_at(after, Symbol::Semicolon)?;
-            Ok((Declaration::Pointer(name), after))
-        }
-        Some((TokenKind::Word(Keyword::Data), after)) => {
-            let (name, after) = name_at(after)?;
-            let after = symbol_at(after, Symbol::Semicolon)?;
-            Ok((Declaration::Data(name), after))
-        }
+        Some((TokenKind::Word(Keyword::Ptr), after)) =>
+            within!(Declaration::Pointer(name); name = name_at(after), Semicolon),
+        Some((TokenKind::Word(Keyword::Data), after)) =>
+            within!(Declaration::Data(name); name = name_at(after), Semicolon),
         _ => Err(stuck(rest)),
     }
 }
@@ -37,9 +32,7 @@ pub fn shared_at<'a>(rest: Rest<'a>) -> Read<'a, Shared<'a>>
     ensures { Gives shared_name result (shared_of rest.entry.at (kinds rest.entry.tokens.now)) }
 {
     let after = word_at(rest, Keyword::Shared)?;
-    let (name, after) = name_at(after)?;
-    let after = symbol_at(after, Symbol::Semicolon)?;
-    Ok((Shared { name }, after))
+    within!(Shared { name }; name = name_at(after), Semicolon)
 }
 
 /// "ptr", which may be left out.
@@ -59,14 +52,10 @@ pub fn function_at<'a>(rest: Rest<'a>) -> Read<'a, Function<'a>>
     let after = word_at(rest, Keyword::Call)?;
     let (name, after) = name_at(after)?;
     let after = symbol_at(after, Symbol::OpenParen)?;
-    let (takes_pointer, after) = pointer_word_at(after)?;
-    let after = symbol_at(after, Symbol::CloseParen)?;
-    let after = symbol_at(after, Symbol::Semicolon)?;
-    let function = Function {
-        name,
-        takes_pointer,
-    };
-    Ok((function, after))
+    within!(
+        Function { name, takes_pointer };
+        takes_pointer = pointer_word_at(after), CloseParen, Semicolon
+    )
 }
 
 /// The function of hazard pointers, from after its word.
@@ -74,10 +63,7 @@ pub fn hazard_at<'a>(rest: Rest<'a>) -> Read<'a, Watch<'a>>
     ensures { Gives watch_tree result (hazard_of rest.entry.at (kinds rest.entry.tokens.now)) }
 {
     let after = symbol_at(rest, Symbol::OpenParen)?;
-    let (function, after) = name_at(after)?;
-    let after = symbol_at(after, Symbol::CloseParen)?;
-    let after = symbol_at(after, Symbol::Semicolon)?;
-    Ok((Watch::Hazard(function), after))
+    within!(Watch::Hazard(function); function = name_at(after), CloseParen, Semicolon)
 }
 
 /// The two functions of epochs, from after the word.
@@ -87,10 +73,7 @@ pub fn epoch_at<'a>(rest: Rest<'a>) -> Read<'a, Watch<'a>>
     let after = symbol_at(rest, Symbol::OpenParen)?;
     let (enter, after) = name_at(after)?;
     let after = symbol_at(after, Symbol::Comma)?;
-    let (leave, after) = name_at(after)?;
-    let after = symbol_at(after, Symbol::CloseParen)?;
-    let after = symbol_at(after, Symbol::Semicolon)?;
-    Ok((Watch::Epoch(enter, leave), after))
+    within!(Watch::Epoch(enter, leave); leave = name_at(after), CloseParen, Semicolon)
 }
 
 /// What is watched, from after "use".
@@ -109,10 +92,8 @@ pub fn watch_at<'a>(rest: Rest<'a>) -> Read<'a, Option<Watch<'a>>>
     ensures { Gives watched_tree result (watch_of rest.entry.at (kinds rest.entry.tokens.now)) }
 {
     match first(rest) {
-        Some((TokenKind::Word(Keyword::Use), after)) => {
-            let (watch, after) = scheme_at(after)?;
-            Ok((Some(watch), after))
-        }
+        Some((TokenKind::Word(Keyword::Use), after)) =>
+            within!(Some(watch); watch = scheme_at(after)),
         _ => Ok((None, rest)),
     }
 }
@@ -131,10 +112,8 @@ pub fn set_of_name_at<'a>(name: &'a [u8], rest: Rest<'a>) -> Read<'a, Set<'a>>
     ensures { Gives set_tree result (set_of_name name.now rest.entry.at (kinds rest.entry.tokens.now)) }
 {
     match first(rest) {
-        Some((TokenKind::Symbol(Symbol::Assign), after)) => {
-            let (value, after) = value_at(after)?;
-            Ok((Set::Name(name, value), after))
-        }
+        Some((TokenKind::Symbol(Symbol::Assign), after)) =>
+            within!(Set::Name(name, value); value = value_at(after)),
         Some((TokenKind::Symbol(Symbol::Dot), after)) => {
             let (field, after) = name_at(after)?;
             set_field_at(name, field, after)
@@ -148,16 +127,10 @@ pub fn initial_at<'a>(rest: Rest<'a>) -> Read<'a, Initial<'a>>
     ensures { Gives initial_tree result (initial_of rest.entry.at (kinds rest.entry.tokens.now)) }
 {
     match first(rest) {
-        Some((TokenKind::Name(name), after)) => {
-            let (set, after) = set_of_name_at(name.as_slice(), after)?;
-            let after = symbol_at(after, Symbol::Semicolon)?;
-            Ok((Initial::Set(set), after))
-        }
-        Some((TokenKind::Word(Keyword::Ghost), after)) => {
-            let (set, after) = ghost_set_at(after)?;
-            let after = symbol_at(after, Symbol::Semicolon)?;
-            Ok((Initial::Ghost(set), after))
-        }
+        Some((TokenKind::Name(name), after)) =>
+            within!(Initial::Set(set); set = set_of_name_at(name.as_slice(), after), Semicolon),
+        Some((TokenKind::Word(Keyword::Ghost), after)) =>
+            within!(Initial::Ghost(set); set = ghost_set_at(after), Semicolon),
         _ => Err(stuck(rest)),
     }
 }

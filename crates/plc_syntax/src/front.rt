@@ -1,5 +1,5 @@
-// Single tokens at the front, and a name after its comma. Each reader takes what it names, or answers the
-// place of the token that stands there in its stead.
+// Single tokens at the front, a name after its comma, and how a form is put around what is read. Each reader
+// takes what it names, or answers the place of the token that stands there in its stead.
 ghost use Rattle.std.specs.Prelude.{◌≡◌, ◌+◌, ◌∷◌, [], MatchOption, IfSome};
 ghost use Rattle.plc_syntax.specs.Syntax.{kinds};
 ghost use Rattle.plc_syntax.specs.Views.{text_of};
@@ -12,6 +12,16 @@ use plc_lex::{Keyword, Symbol, TokenKind};
 
 /// A tree and what stands after it, or why there is none.
 pub type Read<'a, X> = Result<(X, Rest<'a>), Fault>;
+
+// A form around what is read, which it names, and the symbols that end it.
+#[macro_export]
+macro_rules! within {
+    ($form:expr; $part:ident = $read:expr $(, $end:ident)*) => {{
+        let ($part, after) = $read?;
+        $(let after = $crate::symbol_at(after, plc_lex::Symbol::$end)?;)*
+        Ok(($form, after))
+    }};
+}
 
 /// The fault at the first token.
 pub fn stuck(rest: Rest) -> Fault

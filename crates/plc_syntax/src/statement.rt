@@ -12,6 +12,7 @@ use crate::condition::test_at;
 use crate::form::{Argument, Atom, GhostSet, GhostValue, Place, Primitive, Refresh, Set, Value};
 use crate::front::{Read, first, name_at, stuck, symbol_at};
 use crate::rest::Rest;
+use crate::within;
 use plc_lex::{Keyword, Symbol, TokenKind};
 
 /// A place, from after its name.
@@ -44,18 +45,12 @@ pub fn value_at<'a>(rest: Rest<'a>) -> Read<'a, Value<'a>>
         Some((TokenKind::Word(Keyword::Null), after)) => Ok((Value::Null, after)),
         Some((TokenKind::Word(Keyword::New), after)) => Ok((Value::New, after)),
         Some((TokenKind::Number(n), after)) => Ok((Value::Number(*n), after)),
-        Some((TokenKind::Word(Keyword::Mark), after)) => {
-            let (name, after) = name_at(after)?;
-            Ok((Value::Mark(name), after))
-        }
-        Some((TokenKind::Word(Keyword::Unmark), after)) => {
-            let (name, after) = name_at(after)?;
-            Ok((Value::Unmark(name), after))
-        }
-        Some((TokenKind::Name(name), after)) => {
-            let (place, after) = place_of_name_at(name.as_slice(), after)?;
-            Ok((Value::Place(place), after))
-        }
+        Some((TokenKind::Word(Keyword::Mark), after)) =>
+            within!(Value::Mark(name); name = name_at(after)),
+        Some((TokenKind::Word(Keyword::Unmark), after)) =>
+            within!(Value::Unmark(name); name = name_at(after)),
+        Some((TokenKind::Name(name), after)) =>
+            within!(Value::Place(place); place = place_of_name_at(name.as_slice(), after)),
         _ => Err(stuck(rest)),
     }
 }
@@ -90,14 +85,10 @@ pub fn field_tail_at<'a>(name: &'a [u8], field: &'a [u8], rest: Rest<'a>) -> Rea
         (field_tail_of name.now field.now rest.entry.at (kinds rest.entry.tokens.now)) }
 {
     match first(rest) {
-        Some((TokenKind::Symbol(Symbol::Assign), after)) => {
-            let (atom, after) = atom_at(after)?;
-            Ok((Primitive::Set(Set::Field(name, field, atom)), after))
-        }
-        Some((TokenKind::Symbol(Symbol::Refresh), after)) => {
-            let (from, after) = name_at(after)?;
-            Ok((Primitive::Refresh(Refresh::Field(name, field, from)), after))
-        }
+        Some((TokenKind::Symbol(Symbol::Assign), after)) =>
+            within!(Primitive::Set(Set::Field(name, field, atom)); atom = atom_at(after)),
+        Some((TokenKind::Symbol(Symbol::Refresh), after)) =>
+            within!(Primitive::Refresh(Refresh::Field(name, field, from)); from = name_at(after)),
         _ => Err(stuck(rest)),
     }
 }
@@ -107,14 +98,10 @@ pub fn named_tail_at<'a>(name: &'a [u8], rest: Rest<'a>) -> Read<'a, Primitive<'
     ensures { Gives primitive_tree result (named_tail_of name.now rest.entry.at (kinds rest.entry.tokens.now)) }
 {
     match first(rest) {
-        Some((TokenKind::Symbol(Symbol::Assign), after)) => {
-            let (value, after) = value_at(after)?;
-            Ok((Primitive::Set(Set::Name(name, value)), after))
-        }
-        Some((TokenKind::Symbol(Symbol::Refresh), after)) => {
-            let (place, after) = place_at(after)?;
-            Ok((Primitive::Refresh(Refresh::Name(name, place)), after))
-        }
+        Some((TokenKind::Symbol(Symbol::Assign), after)) =>
+            within!(Primitive::Set(Set::Name(name, value)); value = value_at(after)),
+        Some((TokenKind::Symbol(Symbol::Refresh), after)) =>
+            within!(Primitive::Refresh(Refresh::Name(name, place)); place = place_at(after)),
         Some((TokenKind::Symbol(Symbol::Dot), after)) => {
             let (field, after) = name_at(after)?;
             field_tail_at(name, field, after)
@@ -141,18 +128,12 @@ pub fn primitive_at<'a>(rest: Rest<'a>) -> Read<'a, Primitive<'a>>
 {
     match first(rest) {
         Some((TokenKind::Name(name), after)) => named_tail_at(name.as_slice(), after),
-        Some((TokenKind::Word(Keyword::Ghost), after)) => {
-            let (set, after) = ghost_set_at(after)?;
-            Ok((Primitive::Ghost(set), after))
-        }
-        Some((TokenKind::Word(Keyword::Active), after)) => {
-            let (name, after) = name_at(after)?;
-            Ok((Primitive::Active(name), after))
-        }
-        Some((TokenKind::Word(Keyword::Assume), after)) => {
-            let (test, after) = test_at(after)?;
-            Ok((Primitive::Assume(test), after))
-        }
+        Some((TokenKind::Word(Keyword::Ghost), after)) =>
+            within!(Primitive::Ghost(set); set = ghost_set_at(after)),
+        Some((TokenKind::Word(Keyword::Active), after)) =>
+            within!(Primitive::Active(name); name = name_at(after)),
+        Some((TokenKind::Word(Keyword::Assume), after)) =>
+            within!(Primitive::Assume(test); test = test_at(after)),
         Some((TokenKind::Word(Keyword::Skip), after)) => Ok((Primitive::Skip, after)),
         _ => Err(stuck(rest)),
     }
@@ -162,8 +143,7 @@ pub fn primitive_at<'a>(rest: Rest<'a>) -> Read<'a, Primitive<'a>>
 pub fn primitive_line_at<'a>(rest: Rest<'a>) -> Read<'a, Primitive<'a>>
     ensures { Gives primitive_tree result (primitive_line_of rest.entry.at (kinds rest.entry.tokens.now)) }
 {
-    let (primitive, after) = primitive_at(rest)?;
-    Ok((primitive, symbol_at(after, Symbol::Semicolon)?))
+    within!(primitive; primitive = primitive_at(rest), Semicolon)
 }
 
 /// What stands between the parentheses of a call.
@@ -173,10 +153,8 @@ pub fn argument_at<'a>(rest: Rest<'a>) -> Read<'a, Argument<'a>>
     match first(rest) {
         Some((TokenKind::Word(Keyword::Null), after)) => Ok((Argument::Null, after)),
         Some((TokenKind::Name(name), after)) => Ok((Argument::Name(name.as_slice()), after)),
-        Some((TokenKind::Word(Keyword::Active), after)) => {
-            let (name, after) = name_at(after)?;
-            Ok((Argument::Active(name), after))
-        }
+        Some((TokenKind::Word(Keyword::Active), after)) =>
+            within!(Argument::Active(name); name = name_at(after)),
         _ => Ok((Argument::None, rest)),
     }
 }
@@ -186,10 +164,8 @@ pub fn during_at<'a>(rest: Rest<'a>) -> Read<'a, Option<&'a [u8]>>
     ensures { Gives text_or_none result (during_of rest.entry.at (kinds rest.entry.tokens.now)) }
 {
     match first(rest) {
-        Some((TokenKind::Word(Keyword::During), after)) => {
-            let (name, after) = name_at(after)?;
-            Ok((Some(name), after))
-        }
+        Some((TokenKind::Word(Keyword::During), after)) =>
+            within!(Some(name); name = name_at(after)),
         _ => Ok((None, rest)),
     }
 }

@@ -10,7 +10,7 @@ use crate::form::{Auxiliary, AuxiliaryKind};
 use crate::list::list_at;
 use plc_base::Items;
 use plc_lex::{Keyword, Symbol, TokenKind};
-use plc_syntax::{Initial, Read, Rest, first, name_at, stuck, symbol_at};
+use plc_syntax::{Initial, Read, Rest, first, name_at, stuck, symbol_at, within};
 use std::alloc::Global;
 
 /// The values of an auxiliary field, from after the opening brace.
@@ -18,9 +18,7 @@ fn values_at<'a>(alloc: Global, most: usize, rest: Rest<'a>) -> Read<'a, Auxilia
     ensures { Gives kind_tree result (values_of most rest.entry.at (kinds rest.entry.tokens.now)) }
 {
     let (first, after) = name_at(rest)?;
-    let (others, after) = list_at(alloc, most, after)?;
-    let after = symbol_at(after, Symbol::CloseBrace)?;
-    Ok((AuxiliaryKind::OneOf(first, others), after))
+    within!(AuxiliaryKind::OneOf(first, others); others = list_at(alloc, most, after), CloseBrace)
 }
 
 /// What an auxiliary field holds.
@@ -39,9 +37,7 @@ fn ghost_tail_at<'a>(alloc: Global, most: usize, rest: Rest<'a>) -> Read<'a, Aux
     ensures { Gives auxiliary_tree result (ghost_tail_of most rest.entry.at (kinds rest.entry.tokens.now)) }
 {
     let (name, after) = name_at(rest)?;
-    let (kind, after) = ghost_kind_at(alloc, most, after)?;
-    let after = symbol_at(after, Symbol::Semicolon)?;
-    Ok((Auxiliary { name, kind }, after))
+    within!(Auxiliary { name, kind }; kind = ghost_kind_at(alloc, most, after), Semicolon)
 }
 
 /// An auxiliary field.
@@ -60,9 +56,7 @@ fn init_tail_at<'a>(alloc: Global, most: usize, rest: Rest<'a>) -> Read<'a, Item
         (init_tail_of most rest.entry.at (kinds rest.entry.tokens.now)) }
 {
     let after = symbol_at(rest, Symbol::OpenBrace)?;
-    let (sets, after) = list_at(alloc, most, after)?;
-    let after = symbol_at(after, Symbol::CloseBrace)?;
-    Ok((sets, after))
+    within!(sets; sets = list_at(alloc, most, after), CloseBrace)
 }
 
 /// The init block, which may be left out.
@@ -74,10 +68,8 @@ pub fn init_at<'a>(
     ensures { Gives starts_tree result (init_of most rest.entry.at (kinds rest.entry.tokens.now)) }
 {
     match first(rest) {
-        Some((TokenKind::Word(Keyword::Init), after)) => {
-            let (sets, after) = init_tail_at(alloc, most, after)?;
-            Ok((Some(sets), after))
-        }
+        Some((TokenKind::Word(Keyword::Init), after)) =>
+            within!(Some(sets); sets = init_tail_at(alloc, most, after)),
         _ => Ok((None, rest)),
     }
 }

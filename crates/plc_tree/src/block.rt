@@ -13,7 +13,7 @@ ghost use Rattle.plc_tree.specs.Views.{statement_tree, else_tree, ors_tree};
 use crate::statement::{atomic_at, ended_at, label_at, named_statement_at, primitive_statement_at};
 use crate::tree::{Block, Stmt};
 use plc_lex::{Keyword, Symbol, TokenKind};
-use plc_syntax::{Read, Rest, condition_at, first, stuck, symbol_at, word_at};
+use plc_syntax::{Read, Rest, condition_at, first, stuck, symbol_at, within, word_at};
 use std::alloc::Global;
 
 /// Whether a statement begins with a word.
@@ -81,8 +81,7 @@ fn braced_at<'a>(alloc: Global, most: usize, rest: Rest<'a>) -> Read<'a, Block<'
 fn loop_at<'a>(alloc: Global, most: usize, rest: Rest<'a>) -> Read<'a, Stmt<'a>>
     ensures { Gives statement_tree result (loop_of (block_of most) rest.entry.at (kinds rest.entry.tokens.now)) }
 {
-    let (block, after) = braced_at(alloc, most, rest)?;
-    Ok((Stmt::Loop(block), after))
+    within!(Stmt::Loop(block); block = braced_at(alloc, most, rest))
 }
 
 /// An `else` and its block, which may be left out.
@@ -92,10 +91,8 @@ fn else_at<'a>(alloc: Global, most: usize, rest: Rest<'a>) -> Read<'a, Option<Bl
     ensures { Gives else_tree result (else_of (block_of most) rest.entry.at (kinds rest.entry.tokens.now)) }
 {
     match first(rest) {
-        Some((TokenKind::Word(Keyword::Else), after)) => {
-            let (block, after) = braced_at(alloc, most, after)?;
-            Ok((Some(block), after))
-        }
+        Some((TokenKind::Word(Keyword::Else), after)) =>
+            within!(Some(block); block = braced_at(alloc, most, after)),
         _ => Ok((None, rest)),
     }
 }
@@ -110,9 +107,7 @@ fn if_at<'a>(alloc: Global, most: usize, rest: Rest<'a>) -> Read<'a, Stmt<'a>>
     let (condition, after) = condition_at(after)?;
     let after = symbol_at(after, Symbol::CloseParen)?;
     let (yes, after) = braced_at(alloc, most, after)?;
-    let (no, after) = else_at(alloc, most, after)?;
-    let branch = Stmt::If { condition, yes, no };
-    Ok((branch, after))
+    within!(Stmt::If { condition, yes, no }; no = else_at(alloc, most, after))
 }
 
 /// A further block of a choice.
@@ -156,13 +151,7 @@ fn choose_at<'a>(alloc: Global, most: usize, rest: Rest<'a>) -> Read<'a, Stmt<'a
     let (first, after) = braced_at(alloc, most, rest)?;
     let after = word_at(after, Keyword::Or)?;
     let (second, after) = braced_at(alloc, most, after)?;
-    let (others, after) = ors_at(alloc, most, after)?;
-    let choice = Stmt::Choose {
-        first,
-        second,
-        others,
-    };
-    Ok((choice, after))
+    within!(Stmt::Choose { first, second, others }; others = ors_at(alloc, most, after))
 }
 
 /// A statement; at most so many stand within it.

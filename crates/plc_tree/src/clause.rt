@@ -6,8 +6,7 @@ ghost use Rattle.plc_tree.specs.FormViews.{clause_tree};
 
 use crate::form::Clause;
 use crate::list::list_at;
-use plc_lex::Symbol;
-use plc_syntax::{Read, Rest, bound_at, literal_at, symbol_at};
+use plc_syntax::{Read, Rest, bound_at, literal_at, within};
 use std::alloc::Global;
 
 /// A clause and its semicolon.
@@ -16,12 +15,5 @@ pub fn clause_at<'a>(alloc: Global, most: usize, rest: Rest<'a>) -> Read<'a, Cla
 {
     let (bound, after) = bound_at(rest)?;
     let (first, after) = literal_at(after)?;
-    let (others, after) = list_at(alloc, most, after)?;
-    let after = symbol_at(after, Symbol::Semicolon)?;
-    let clause = Clause {
-        bound,
-        first,
-        others,
-    };
-    Ok((clause, after))
+    within!(Clause { bound, first, others }; others = list_at(alloc, most, after), Semicolon)
 }

@@ -23,7 +23,7 @@ use plc_base::Items;
 use plc_lex::{Keyword, Symbol, Token};
 use plc_syntax::{
     Declaration, Fault, Function, Initial, Read, Rest, Shared, Watch, name_at, stuck, symbol_at,
-    watch_at, word_at,
+    watch_at, within, word_at,
 };
 use std::alloc::Global;
 
@@ -71,9 +71,7 @@ fn struct_at<'a>(alloc: Global, most: usize, rest: Rest<'a>) -> Read<'a, Struct<
     let after = word_at(rest, Keyword::Struct)?;
     let (name, after) = name_at(after)?;
     let after = symbol_at(after, Symbol::OpenBrace)?;
-    let (fields, after) = list_at(alloc, most, after)?;
-    let after = symbol_at(after, Symbol::CloseBrace)?;
-    Ok((Struct { name, fields }, after))
+    within!(Struct { name, fields }; fields = list_at(alloc, most, after), CloseBrace)
 }
 
 /// What stands before the operations.
@@ -85,16 +83,10 @@ fn heading_at<'a>(alloc: Global, most: usize, rest: Rest<'a>) -> Read<'a, Headin
     let (functions, after) = list_at(alloc, most, after)?;
     let (watched, after) = watch_at(after)?;
     let (auxiliaries, after) = list_at(alloc, most, after)?;
-    let (starts, after) = init_at(alloc, most, after)?;
-    let heading = Heading {
-        node,
-        pointers,
-        functions,
-        watched,
-        auxiliaries,
-        starts,
-    };
-    Ok((heading, after))
+    within!(
+        Heading { node, pointers, functions, watched, auxiliaries, starts };
+        starts = init_at(alloc, most, after)
+    )
 }
 
 /// A file at the front.
@@ -103,13 +95,7 @@ fn file_at<'a>(alloc: Global, most: usize, rest: Rest<'a>) -> Read<'a, File<'a>>
 {
     let (heading, after) = heading_at(alloc, most, rest)?;
     let (operations, after) = list_at(alloc, most, after)?;
-    let (outline, after) = outlined_at(alloc, most, after)?;
-    let file = File {
-        heading,
-        operations,
-        outline,
-    };
-    Ok((file, after))
+    within!(File { heading, operations, outline }; outline = outlined_at(alloc, most, after))
 }
 
 /// The tree of tokens, however deep its blocks stand.

@@ -9,7 +9,7 @@ use crate::list::list_at;
 use crate::tree::Block;
 use plc_base::Items;
 use plc_lex::{Keyword, Symbol, TokenKind};
-use plc_syntax::{Declaration, Read, Rest, first, name_at, stuck, symbol_at};
+use plc_syntax::{Declaration, Read, Rest, first, name_at, stuck, symbol_at, within};
 use std::alloc::Global;
 
 /// The parameters of an operation, of which there may be none.
@@ -39,10 +39,8 @@ fn parameters_at<'a>(alloc: Global, most: usize, rest: Rest<'a>) -> Read<'a, Par
     ensures { Gives parameters_names result (parameters_of most rest.entry.at (kinds rest.entry.tokens.now)) }
 {
     match first(rest) {
-        Some((TokenKind::Name(name), after)) => {
-            let (others, after) = list_at(alloc, most, after)?;
-            Ok((Parameters::Some(name.as_slice(), others), after))
-        }
+        Some((TokenKind::Name(name), after)) =>
+            within!(Parameters::Some(name.as_slice(), others); others = list_at(alloc, most, after)),
         _ => Ok((Parameters::None, rest)),
     }
 }
@@ -57,14 +55,7 @@ fn op_tail_at<'a>(alloc: Global, most: usize, rest: Rest<'a>) -> Read<'a, Operat
     let after = symbol_at(after, Symbol::CloseParen)?;
     let after = symbol_at(after, Symbol::OpenBrace)?;
     let (locals, after) = list_at(alloc, most, after)?;
-    let (body, after) = block_at(alloc, most, after)?;
-    let operation = Operation {
-        name,
-        parameters,
-        locals,
-        body,
-    };
-    Ok((operation, after))
+    within!(Operation { name, parameters, locals, body }; body = block_at(alloc, most, after))
 }
 
 /// An operation.

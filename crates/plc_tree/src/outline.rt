@@ -11,7 +11,7 @@ use crate::clause::clause_at;
 use crate::form::{Item, Outline};
 use crate::list::list_at;
 use plc_lex::{Keyword, Symbol, Token, TokenKind};
-use plc_syntax::{Fault, Read, Rest, depth_at, first, name_at, stuck, symbol_at, word_at};
+use plc_syntax::{Fault, Read, Rest, depth_at, first, name_at, stuck, symbol_at, within, word_at};
 use std::alloc::Global;
 
 /// An item over an operation, from after its word.
@@ -40,10 +40,8 @@ pub fn item_at<'a>(alloc: Global, most: usize, rest: Rest<'a>) -> Read<'a, Item<
     ensures { Gives item_tree result (item_of most rest.entry.at (kinds rest.entry.tokens.now)) }
 {
     match first(rest) {
-        Some((TokenKind::Word(Keyword::Inv), after)) => {
-            let (clause, after) = clause_at(alloc, most, after)?;
-            Ok((Item::Invariant(clause), after))
-        }
+        Some((TokenKind::Word(Keyword::Inv), after)) =>
+            within!(Item::Invariant(clause); clause = clause_at(alloc, most, after)),
         Some((TokenKind::Word(Keyword::Over), after)) => over_item_at(alloc, most, after),
         Some((TokenKind::Word(Keyword::At), after)) => at_item_at(alloc, most, after),
         _ => Err(stuck(rest)),
@@ -56,9 +54,7 @@ fn outline_tail_at<'a>(alloc: Global, most: usize, rest: Rest<'a>) -> Read<'a, O
 {
     let after = symbol_at(rest, Symbol::OpenBrace)?;
     let (depth, after) = depth_at(after)?;
-    let (items, after) = list_at(alloc, most, after)?;
-    let after = symbol_at(after, Symbol::CloseBrace)?;
-    Ok((Outline { depth, items }, after))
+    within!(Outline { depth, items }; items = list_at(alloc, most, after), CloseBrace)
 }
 
 /// An outline.
@@ -90,10 +86,8 @@ pub fn outlined_at<'a>(alloc: Global, most: usize, rest: Rest<'a>) -> Read<'a, O
     ensures { Gives outlined_tree result (outlined_of most rest.entry.at (kinds rest.entry.tokens.now)) }
 {
     match first(rest) {
-        Some((TokenKind::Word(Keyword::Outline), after)) => {
-            let (outline, after) = outline_tail_at(alloc, most, after)?;
-            Ok((Some(outline), after))
-        }
+        Some((TokenKind::Word(Keyword::Outline), after)) =>
+            within!(Some(outline); outline = outline_tail_at(alloc, most, after)),
         _ => Ok((None, rest)),
     }
 }

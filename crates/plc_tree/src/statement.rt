@@ -8,7 +8,8 @@ use crate::list::list_at;
 use crate::tree::Stmt;
 use plc_lex::{Symbol, TokenKind};
 use plc_syntax::{
-    Read, Rest, argument_at, during_at, first, name_at, named_tail_at, primitive_line_at, symbol_at,
+    Read, Rest, argument_at, during_at, first, name_at, named_tail_at, primitive_line_at,
+    symbol_at, within,
 };
 use std::alloc::Global;
 
@@ -18,14 +19,7 @@ fn call_at<'a>(name: &'a [u8], rest: Rest<'a>) -> Read<'a, Stmt<'a>>
 {
     let (argument, after) = argument_at(rest)?;
     let after = symbol_at(after, Symbol::CloseParen)?;
-    let (during, after) = during_at(after)?;
-    let after = symbol_at(after, Symbol::Semicolon)?;
-    let call = Stmt::Call {
-        name,
-        argument,
-        during,
-    };
-    Ok((call, after))
+    within!(Stmt::Call { name, argument, during }; during = during_at(after), Semicolon)
 }
 
 /// A call or a primitive, from after the name with which it begins.
@@ -36,9 +30,7 @@ pub fn named_statement_at<'a>(name: &'a [u8], rest: Rest<'a>) -> Read<'a, Stmt<'
     if let Some((TokenKind::Symbol(Symbol::OpenParen), after)) = first(rest) {
         return call_at(name, after);
     }
-    let (primitive, after) = named_tail_at(name, rest)?;
-    let after = symbol_at(after, Symbol::Semicolon)?;
-    Ok((Stmt::Primitive(primitive), after))
+    within!(Stmt::Primitive(primitive); primitive = named_tail_at(name, rest), Semicolon)
 }
 
 /// An atomic block, from after its word; at most so many primitives.
@@ -46,9 +38,7 @@ pub fn atomic_at<'a>(alloc: Global, most: usize, rest: Rest<'a>) -> Read<'a, Stm
     ensures { Gives statement_tree result (atomic_of most rest.entry.at (kinds rest.entry.tokens.now)) }
 {
     let after = symbol_at(rest, Symbol::OpenBrace)?;
-    let (primitives, after) = list_at(alloc, most, after)?;
-    let after = symbol_at(after, Symbol::CloseBrace)?;
-    Ok((Stmt::Atomic(primitives), after))
+    within!(Stmt::Atomic(primitives); primitives = list_at(alloc, most, after), CloseBrace)
 }
 
 /// A statement and its semicolon, from after its word.
@@ -74,6 +64,5 @@ pub fn label_at<'a>(rest: Rest<'a>) -> Read<'a, Stmt<'a>>
 pub fn primitive_statement_at<'a>(rest: Rest<'a>) -> Read<'a, Stmt<'a>>
     ensures { Gives statement_tree result (step_of rest.entry.at (kinds rest.entry.tokens.now)) }
 {
-    let (primitive, after) = primitive_line_at(rest)?;
-    Ok((Stmt::Primitive(primitive), after))
+    within!(Stmt::Primitive(primitive); primitive = primitive_line_at(rest))
 }
