@@ -5,13 +5,15 @@
 
 mod clause;
 mod context;
+mod fit;
 mod item;
 mod kind;
-mod laws;
+mod one_outline;
 mod outline;
 mod reach;
 mod site;
 mod term;
 
-pub use laws::{outlines_are_one, outlines_fit};
+pub use fit::outlines_fit;
+pub use one_outline::outlines_are_one;
 pub use outline::{outline_meaning, read_outline};

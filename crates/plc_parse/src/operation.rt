@@ -2,14 +2,14 @@
 ghost use Rattle.std.specs.Prelude.{◌≡◌, ◌+◌, ◌*◌, ◌<◌, ◌≤◌, ◌^◌, [], length, IfOk, map};
 ghost use Rattle.std.specs.List.{sum_by};
 ghost use Rattle.plc_base.specs.Limits.{most};
+ghost use Rattle.plc_scope.specs.Answers.{Gives, HasRoom};
+ghost use Rattle.plc_parse.specs.Meaning.{op_means, listed};
+ghost use Rattle.plc_outparse.specs.Answers.{OpsFit};
+ghost use Rattle.plc_parse.specs.Units.{lines_of};
 ghost use Rattle.plc_scope.specs.Scope.{most_locals};
 ghost use Rattle.plc_tree.specs.FileViews.{operation_tree};
-ghost use Rattle.plc_outparse.specs.Answers.{OpsFit};
-ghost use Rattle.plc_scope.specs.Answers.{Gives, HasRoom};
 ghost use Rattle.plc_parse.specs.Growth.{CanOperate, GrowsByOps, op_names, most_labels};
-ghost use Rattle.plc_parse.specs.Meaning.{op_means, listed};
 ghost use Rattle.plc_parse.specs.Sizes.{op_size};
-ghost use Rattle.plc_parse.specs.Units.{lines_of};
 
 use crate::block::{Context, statements};
 use crate::declaration::declare;

@@ -20,6 +20,19 @@ const SPACING: u64 = 8;
 /// How many characters the number of a box takes at most, where there are no more than some thousand.
 const LONGEST_NUMBER: u64 = 8;
 
+/// Where everything stands.
+#[derive(Drop)]
+pub(crate) struct Layout {
+    pub places: Vec<Place>,
+    pub arrows: Vec<Arrow>,
+    /// How many lines the longest box has.
+    lines: u64,
+    /// How many arrows go around the boxes.
+    lanes: u64,
+    /// The width of the whole drawing.
+    pub width: u64,
+}
+
 /// Where a box stands, and how many arrows go around the boxes from it and to it.
 #[derive(Clone, Copy)]
 pub(crate) struct Place {
@@ -44,19 +57,6 @@ pub(crate) struct Arrow {
     pub to: usize,
     pub way: Way,
     pub changed: bool,
-}
-
-/// Where everything stands.
-#[derive(Drop)]
-pub(crate) struct Layout {
-    pub places: Vec<Place>,
-    pub arrows: Vec<Arrow>,
-    /// How many lines the longest box has.
-    lines: u64,
-    /// How many arrows go around the boxes.
-    lanes: u64,
-    /// The width of the whole drawing.
-    pub width: u64,
 }
 
 /// So many pixels after others.

@@ -22,13 +22,13 @@ use std::alloc::Global;
 /// The names in reach.
 #[derive(Drop)]
 pub struct Scope {
-    pub names: Names,
     /// One for each name.
     pub bindings: Items<Binding>,
     /// The locals of the present operation.
     pub locals: Items<Local>,
     /// The numbers of the names of the labels.
     pub labels: Items<u16>,
+    pub names: Names,
 }
 
 /// Adds a name that differs from all before, and answers its number. `Duplicate` where it doesn't.
@@ -62,10 +62,10 @@ impl Scope {
         ensures err { IfErr result (λ e. e ≡ ParseFault.Memory) }
     {
         let mut scope = Scope {
-            names: Names::new(alloc, MOST_NAMES),
             bindings: Items::new(alloc),
             locals: Items::new(alloc),
             labels: Items::new(alloc),
+            names: Names::new(alloc, MOST_NAMES),
         };
         scope.declare(b"retire", 0, Binding::Function(FuncId::RETIRE, true))?;
         Ok(scope)

@@ -1,8 +1,11 @@
 -- The law of each form that holds no list, by its reader's shape: what is read of it are the tokens of its tree, or the
 -- beginning of one.
-use Rattle.std.proofs.Common.{ℕ, Bool, true, Option, None, [], ◌∷◌, refl}
+use Rattle.std.proofs.Common.{◌≡◌, ℕ, Bool, true, false, cond, Option, None, [], ◌∷◌, refl, sym, ap, rules}
+use denote.Enum.Bare.{sameb, same_true}
+use Rattle.plc_lex.specs.contracts.token.Keyword as keyword
 use Rattle.plc_lex.specs.declared.token.TokenKind.{TokenKind}
 use Rattle.plc_lex.specs.declared.token.TokenKind.TheVariants.{Word, Name, Number, Symbol}
+use Rattle.plc_lex.specs.declared.token.Keyword.{Keyword}
 use Rattle.plc_lex.specs.declared.token.Keyword.TheVariants.{Ptr, Data, Shared, Call, Use, Hazard, Epoch, Ghost, Skip}
 use Rattle.plc_lex.specs.declared.token.Keyword.TheVariants.{Or, During, Active, Assume, New, Null, Cas, Depth, All}
 use Rattle.plc_lex.specs.declared.token.Keyword.TheVariants.{Not, Retired, Me, None as NoneWord, Mark, Unmark, Marked}
@@ -60,6 +63,22 @@ ghost_value_choice _ = leaves (λ m. refl)
 ghost_value_law : {n : ℕ} → Law n trees.ghost_value_then same (λ m at ts. forms.ghost_value_of at ts)
 ghost_value_law = led_law ghost_value_choice (fault trees.MeGhost (Word Me ∷ []) (tt, tt) (λ q. refl))
 
+-- ---- a word that may be left out
+
+word_if_by : {n : ℕ} (k j : Keyword) (b : Bool) → sameb keyword.the_type j k ≡ b
+    → Choice n (word_if_then k) same (λ m. forms.word_if_next k) (Word j)
+word_if_by k j true e = takes _ (λ m. ap (λ b. cond b (forms.alone true) None) e)
+    (last (λ q. ap (λ w. Word w ∷ q) (sym (same_true keyword.the_type (search rules) j k e))))
+word_if_by k j false e = leaves (λ m. ap (λ b. cond b (forms.alone true) None) e)
+
+word_if_choice : {n : ℕ} (k : Keyword) (t : TokenKind)
+    → Choice n (word_if_then k) same (λ m. forms.word_if_next k) t
+word_if_choice k (Word j) = word_if_by k j (sameb keyword.the_type j k) refl
+word_if_choice k _ = leaves (λ m. refl)
+
+word_if_law : {n : ℕ} (k : Keyword) → Law n (word_if_then k) same (λ m at ts. forms.word_if_of k at ts)
+word_if_law k = led_law (word_if_choice k) (last (λ q. refl))
+
 -- ---- tests and conditions
 
 abbrev comparison_then : Spells trees.Comparison
@@ -97,24 +116,14 @@ name_or_null_choice _ = leaves (λ m. refl)
 name_or_null_law : {n : ℕ} → Law n trees.name_or_null_then same (λ m at ts. forms.name_or_null_of at ts)
 name_or_null_law = led_law name_or_null_choice (fault None (Word Null ∷ []) (tt, tt) (λ q. refl))
 
-abbrev active_then : Spells Bool
-active_then w q = word_if_then Active w q
-
-active_choice : {n : ℕ} (t : TokenKind) → Choice n active_then same (λ m. forms.active_next) t
-active_choice (Word Active) = takes _ (λ m. refl) (last (λ q. refl))
-active_choice _ = leaves (λ m. refl)
-
-active_law : {n : ℕ} → Law n active_then same (λ m at ts. forms.active_word_of at ts)
-active_law = led_law active_choice (last (λ q. refl))
-
 cas_law : {n : ℕ} (w : Bool)
-    → Law n trees.condition_then (λ q. Word Cas ∷ Symbol OpenParen ∷ active_then w q) (λ m at ts. forms.cas_of w at ts)
+    → Law n trees.condition_then (λ q. Word Cas ∷ Symbol OpenParen ∷ word_if_then Active w q) (λ m at ts. forms.cas_of w at ts)
 cas_law w = then_form name_law (λ k. then_symbol Comma (then_form name_or_null_law (λ old.
     then_symbol Comma (then_form name_or_null_law (λ new. then_symbol CloseParen (last (λ q. refl)))))))
 
 cas_condition_law : {n : ℕ}
     → Law n trees.condition_then (λ q. Word Cas ∷ q) (λ m at ts. forms.cas_condition_of at ts)
-cas_condition_law = then_symbol OpenParen (then_form active_law (λ w. cas_law w))
+cas_condition_law = then_symbol OpenParen (then_form (word_if_law Active) (λ w. cas_law w))
 
 named_condition_choice : {n : ℕ} (k : Text) (t : TokenKind)
     → Choice n trees.condition_then (λ q. Name k ∷ q) (λ m. forms.named_condition_next k) t
@@ -180,13 +189,13 @@ primitive_line_law n = then_form primitive_law (λ p. then_symbol Semicolon (las
 
 -- ---- the assignments of `init`
 
-set_field_law : {n : ℕ} (k f : Text) → Law n trees.set_then (λ q. Name k ∷ Symbol Dot ∷ Name f ∷ q)
-    (λ m at ts. forms.set_field_of k f at ts)
-set_field_law k f = then_symbol Assign (then_form atom_law (λ a. last (λ q. refl)))
+set_field_law : {n : ℕ} (k : Text)
+    → Law n trees.set_then (λ q. Name k ∷ Symbol Dot ∷ q) (λ m at ts. forms.set_field_of k at ts)
+set_field_law k = then_form name_law (λ f. then_symbol Assign (then_form atom_law (λ a. last (λ q. refl))))
 
 set_choice : {n : ℕ} (k : Text) (t : TokenKind) → Choice n trees.set_then (λ q. Name k ∷ q) (λ m. forms.set_next k) t
 set_choice k (Symbol Assign) = takes _ (λ m. refl) (then_form value_law (λ v. last (λ q. refl)))
-set_choice k (Symbol Dot) = takes _ (λ m. refl) (then_form name_law (λ f. set_field_law k f))
+set_choice k (Symbol Dot) = takes _ (λ m. refl) (set_field_law k)
 set_choice k _ = leaves (λ m. refl)
 
 set_law : {n : ℕ} (k : Text) → Law n trees.set_then (λ q. Name k ∷ q) (λ m at ts. forms.set_of_name k at ts)
@@ -250,18 +259,8 @@ field_law n = led_law field_choice
 pub shared_law : (n : ℕ) → Law n trees.shared_then same (λ m at ts. forms.shared_of at ts)
 shared_law n = then_word Shared (then_form name_law (λ k. then_symbol Semicolon (last (λ q. refl))))
 
-abbrev pointer_then : Spells Bool
-pointer_then w q = word_if_then Ptr w q
-
-pointer_choice : {n : ℕ} (t : TokenKind) → Choice n pointer_then same (λ m. forms.pointer_next) t
-pointer_choice (Word Ptr) = takes _ (λ m. refl) (last (λ q. refl))
-pointer_choice _ = leaves (λ m. refl)
-
-pointer_word_law : {n : ℕ} → Law n pointer_then same (λ m at ts. forms.pointer_word_of at ts)
-pointer_word_law = led_law pointer_choice (last (λ q. refl))
-
 pub function_law : (n : ℕ) → Law n trees.function_then same (λ m at ts. forms.function_of at ts)
-function_law n = then_word Call (then_form name_law (λ k. then_symbol OpenParen (then_form pointer_word_law (λ w.
+function_law n = then_word Call (then_form name_law (λ k. then_symbol OpenParen (then_form (word_if_law Ptr) (λ w.
     then_symbol CloseParen (then_symbol Semicolon (last (λ q. refl)))))))
 
 hazard_law : {n : ℕ} → Law n trees.scheme_then (λ q. Word Hazard ∷ q) (λ m at ts. forms.hazard_of at ts)

@@ -89,6 +89,14 @@ abbrev pub symbol_of : Punctuation → ℕ → List TokenKind → Pass
 symbol_of symbol at (Symbol found ∷ ts) = if sameb punctuation.the_type found symbol then Ok (at + 1, ts) else Err at
 symbol_of symbol at ts = Err at
 
+abbrev pub word_if_next : Keyword → Next Bool
+word_if_next word (Word found) = if sameb keyword.the_type found word then alone true else None
+word_if_next word _ = None
+
+-- whether the word stands there, which may be left out
+abbrev pub word_if_of : Keyword → ℕ → List TokenKind → Read Bool
+word_if_of word at ts = led (word_if_next word) (Ok (false, at, ts)) at ts
+
 abbrev pub name_next : Next Text
 name_next (Name n) = alone n
 name_next _ = None
@@ -189,14 +197,6 @@ name_or_null_next _ = None
 abbrev pub name_or_null_of : ℕ → List TokenKind → Read (Option Text)
 name_or_null_of at ts = led name_or_null_next (Err at) at ts
 
-abbrev pub active_next : Next Bool
-active_next (Word Active) = alone true
-active_next _ = None
-
--- "active", which may be left out
-abbrev pub active_word_of : ℕ → List TokenKind → Read Bool
-active_word_of at ts = led active_next (Ok (false, at, ts)) at ts
-
 -- the three pointers of a cas and the parenthesis after them
 abbrev pub cas_of : Bool → ℕ → List TokenKind → Read ConditionTree
 cas_of is_active at ts = name_of at ts >>= λ n at ts.
@@ -207,7 +207,7 @@ cas_of is_active at ts = name_of at ts >>= λ n at ts.
 -- a cas, from after its word
 abbrev pub cas_condition_of : ℕ → List TokenKind → Read ConditionTree
 cas_condition_of at ts =
-    symbol_of OpenParen at ts >> λ at ts. active_word_of at ts >>= λ w at ts. cas_of w at ts
+    symbol_of OpenParen at ts >> λ at ts. word_if_of Active at ts >>= λ w at ts. cas_of w at ts
 
 abbrev pub named_condition_next : Text → Next ConditionTree
 named_condition_next n (Symbol Refresh) =
@@ -274,14 +274,14 @@ primitive_line_of at ts = primitive_of at ts >>= λ p at ts. symbol_of Semicolon
 
 -- ---- the assignments of `init`
 
--- an assignment to a field, from after the field's name
-abbrev pub set_field_of : Text → Text → ℕ → List TokenKind → Read SetTree
-set_field_of n f at ts =
+-- an assignment to a field, from after the dot
+abbrev pub set_field_of : Text → ℕ → List TokenKind → Read SetTree
+set_field_of n at ts = name_of at ts >>= λ f at ts.
     symbol_of Assign at ts >> λ at ts. atom_of at ts >>= λ a at ts. Ok (SetField n f a, at, ts)
 
 abbrev pub set_next : Text → Next SetTree
 set_next n (Symbol Assign) = Some (λ at ts. value_of at ts >>= λ v at ts. Ok (SetName n v, at, ts))
-set_next n (Symbol Dot) = Some (λ at ts. name_of at ts >>= λ f at ts. set_field_of n f at ts)
+set_next n (Symbol Dot) = Some (λ at ts. set_field_of n at ts)
 set_next n _ = None
 
 -- an assignment, from after its first name
@@ -333,17 +333,9 @@ abbrev pub shared_of : ℕ → List TokenKind → Read Text
 shared_of at ts = word_of Shared at ts >> λ at ts. name_of at ts >>= λ n at ts.
     symbol_of Semicolon at ts >> λ at ts. Ok (n, at, ts)
 
-abbrev pub pointer_next : Next Bool
-pointer_next (Word Ptr) = alone true
-pointer_next _ = None
-
--- "ptr", which may be left out
-abbrev pub pointer_word_of : ℕ → List TokenKind → Read Bool
-pointer_word_of at ts = led pointer_next (Ok (false, at, ts)) at ts
-
 abbrev pub function_of : ℕ → List TokenKind → Read FunctionTree
 function_of at ts = word_of Call at ts >> λ at ts. name_of at ts >>= λ n at ts.
-    symbol_of OpenParen at ts >> λ at ts. pointer_word_of at ts >>= λ w at ts.
+    symbol_of OpenParen at ts >> λ at ts. word_if_of Ptr at ts >>= λ w at ts.
     symbol_of CloseParen at ts >> λ at ts. symbol_of Semicolon at ts >> λ at ts. Ok (Declares n w, at, ts)
 
 -- a function of hazard pointers, from after its word

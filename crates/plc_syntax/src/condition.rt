@@ -1,12 +1,12 @@
 // Tests and the conditions of `if`.
 ghost use Rattle.plc_syntax.specs.Syntax.{kinds};
 ghost use Rattle.plc_syntax.specs.Views.{text_or_none, relation_tree, test_tree, cas_tree, condition_tree};
-ghost use Rattle.plc_syntax.specs.Forms.{comparison_of, compared_of, test_of, name_or_null_of, active_word_of, cas_of};
+ghost use Rattle.plc_syntax.specs.Forms.{comparison_of, compared_of, test_of, name_or_null_of, cas_of};
 ghost use Rattle.plc_syntax.specs.Forms.{cas_condition_of, named_condition_of, condition_of};
 ghost use Rattle.plc_syntax.specs.Answers.{Gives};
 
 use crate::form::{Cas, Condition, Relation, Test};
-use crate::front::{Read, first, name_at, stuck, symbol_at};
+use crate::front::{Read, first, name_at, stuck, symbol_at, word_if_at};
 use crate::rest::Rest;
 use crate::statement::{atom_at, place_at};
 use crate::within;
@@ -58,16 +58,6 @@ pub fn name_or_null_at<'a>(rest: Rest<'a>) -> Read<'a, Option<&'a [u8]>>
     }
 }
 
-/// "active", which may be left out.
-pub fn active_word_at<'a>(rest: Rest<'a>) -> Read<'a, bool>
-    ensures { Gives (λ b. b) result (active_word_of rest.entry.at (kinds rest.entry.tokens.now)) }
-{
-    match first(rest) {
-        Some((TokenKind::Word(Keyword::Active), after)) => Ok((true, after)),
-        _ => Ok((false, rest)),
-    }
-}
-
 /// The three pointers of a cas and the parenthesis after them.
 pub fn cas_at<'a>(is_active: bool, rest: Rest<'a>) -> Read<'a, Cas<'a>>
     ensures { Gives cas_tree result (cas_of is_active rest.entry.at (kinds rest.entry.tokens.now)) }
@@ -84,7 +74,7 @@ pub fn cas_condition_at<'a>(rest: Rest<'a>) -> Read<'a, Condition<'a>>
     ensures { Gives condition_tree result (cas_condition_of rest.entry.at (kinds rest.entry.tokens.now)) }
 {
     let after = symbol_at(rest, Symbol::OpenParen)?;
-    let (is_active, after) = active_word_at(after)?;
+    let (is_active, after) = word_if_at(after, Keyword::Active)?;
     let (cas, after) = cas_at(is_active, after)?;
     Ok((Condition::Cas(cas), after))
 }

@@ -3,12 +3,12 @@
 ghost use Rattle.plc_syntax.specs.Syntax.{kinds};
 ghost use Rattle.plc_syntax.specs.Views.{field_tree, function_tree, watch_tree, shared_name, watched_tree, set_tree};
 ghost use Rattle.plc_syntax.specs.Views.{initial_tree};
-ghost use Rattle.plc_syntax.specs.Forms.{field_of, shared_of, pointer_word_of, function_of, hazard_of, epoch_of};
+ghost use Rattle.plc_syntax.specs.Forms.{field_of, shared_of, function_of, hazard_of, epoch_of};
 ghost use Rattle.plc_syntax.specs.Forms.{scheme_of, watch_of, set_field_of, set_of_name, initial_of};
 ghost use Rattle.plc_syntax.specs.Answers.{Gives};
 
 use crate::form::{Declaration, Function, Initial, Set, Shared, Watch};
-use crate::front::{Read, first, name_at, stuck, symbol_at, word_at};
+use crate::front::{Read, first, name_at, stuck, symbol_at, word_at, word_if_at};
 use crate::rest::Rest;
 use crate::statement::{atom_at, ghost_set_at, value_at};
 use crate::within;
@@ -35,16 +35,6 @@ pub fn shared_at<'a>(rest: Rest<'a>) -> Read<'a, Shared<'a>>
     within!(Shared { name }; name = name_at(after), Semicolon)
 }
 
-/// "ptr", which may be left out.
-pub fn pointer_word_at<'a>(rest: Rest<'a>) -> Read<'a, bool>
-    ensures { Gives (λ b. b) result (pointer_word_of rest.entry.at (kinds rest.entry.tokens.now)) }
-{
-    match first(rest) {
-        Some((TokenKind::Word(Keyword::Ptr), after)) => Ok((true, after)),
-        _ => Ok((false, rest)),
-    }
-}
-
 /// A function of the reclaimer.
 pub fn function_at<'a>(rest: Rest<'a>) -> Read<'a, Function<'a>>
     ensures { Gives function_tree result (function_of rest.entry.at (kinds rest.entry.tokens.now)) }
@@ -54,7 +44,7 @@ pub fn function_at<'a>(rest: Rest<'a>) -> Read<'a, Function<'a>>
     let after = symbol_at(after, Symbol::OpenParen)?;
     within!(
         Function { name, takes_pointer };
-        takes_pointer = pointer_word_at(after), CloseParen, Semicolon
+        takes_pointer = word_if_at(after, Keyword::Ptr), CloseParen, Semicolon
     )
 }
 
@@ -98,11 +88,12 @@ pub fn watch_at<'a>(rest: Rest<'a>) -> Read<'a, Option<Watch<'a>>>
     }
 }
 
-/// An assignment to a field, from after the field's name.
-pub fn set_field_at<'a>(name: &'a [u8], field: &'a [u8], rest: Rest<'a>) -> Read<'a, Set<'a>>
-    ensures { Gives set_tree result (set_field_of name.now field.now rest.entry.at (kinds rest.entry.tokens.now)) }
+/// An assignment to a field, from after the dot.
+pub fn set_field_at<'a>(name: &'a [u8], rest: Rest<'a>) -> Read<'a, Set<'a>>
+    ensures { Gives set_tree result (set_field_of name.now rest.entry.at (kinds rest.entry.tokens.now)) }
 {
-    let after = symbol_at(rest, Symbol::Assign)?;
+    let (field, after) = name_at(rest)?;
+    let after = symbol_at(after, Symbol::Assign)?;
     let (atom, after) = atom_at(after)?;
     Ok((Set::Field(name, field, atom), after))
 }
@@ -114,10 +105,7 @@ pub fn set_of_name_at<'a>(name: &'a [u8], rest: Rest<'a>) -> Read<'a, Set<'a>>
     match first(rest) {
         Some((TokenKind::Symbol(Symbol::Assign), after)) =>
             within!(Set::Name(name, value); value = value_at(after)),
-        Some((TokenKind::Symbol(Symbol::Dot), after)) => {
-            let (field, after) = name_at(after)?;
-            set_field_at(name, field, after)
-        }
+        Some((TokenKind::Symbol(Symbol::Dot), after)) => set_field_at(name, after),
         _ => Err(stuck(rest)),
     }
 }

@@ -1,17 +1,24 @@
 // The forms that readers answer, one type for each kind of tree. They borrow the bytes of names from
 // the tokens, so reading takes no memory.
 
+/// A shared pointer, by its name.
+#[derive(Clone, Copy)]
+pub struct Shared<'a> {
+    pub name: &'a [u8],
+}
+
+/// A reclaimer function: its name, and whether it takes a pointer.
+#[derive(Clone, Copy)]
+pub struct Function<'a> {
+    pub name: &'a [u8],
+    pub takes_pointer: bool,
+}
+
 /// A field of the struct or a local, by its name.
 #[derive(Clone, Copy)]
 pub enum Declaration<'a> {
     Pointer(&'a [u8]),
     Data(&'a [u8]),
-}
-
-/// A shared pointer, by its name.
-#[derive(Clone, Copy)]
-pub struct Shared<'a> {
-    pub name: &'a [u8],
 }
 
 /// What the reclaimer watches.
@@ -21,13 +28,6 @@ pub enum Watch<'a> {
     Hazard(&'a [u8]),
     /// The functions that enter and leave an epoch.
     Epoch(&'a [u8], &'a [u8]),
-}
-
-/// A reclaimer function: its name, and whether it takes a pointer.
-#[derive(Clone, Copy)]
-pub struct Function<'a> {
-    pub name: &'a [u8],
-    pub takes_pointer: bool,
 }
 
 /// A name, or a field of what it points to.

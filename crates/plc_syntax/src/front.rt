@@ -3,7 +3,7 @@
 ghost use Rattle.std.specs.Prelude.{◌≡◌, ◌+◌, ◌∷◌, [], MatchOption, IfSome};
 ghost use Rattle.plc_syntax.specs.Syntax.{kinds};
 ghost use Rattle.plc_syntax.specs.Views.{text_of};
-ghost use Rattle.plc_syntax.specs.Forms.{word_of, symbol_of, name_of, number_of, comma_name_of};
+ghost use Rattle.plc_syntax.specs.Forms.{word_of, word_if_of, symbol_of, name_of, number_of, comma_name_of};
 ghost use Rattle.plc_syntax.specs.Answers.{Gives, Passes};
 
 use crate::fault::Fault;
@@ -52,6 +52,16 @@ pub fn word_at<'a>(rest: Rest<'a>, word: Keyword) -> Result<Rest<'a>, Fault>
     match first(rest) {
         Some((TokenKind::Word(found), after)) if *found == word => Ok(after),
         _ => Err(stuck(rest)),
+    }
+}
+
+/// Whether a keyword stands there, which may be left out.
+pub fn word_if_at<'a>(rest: Rest<'a>, word: Keyword) -> Read<'a, bool>
+    ensures { Gives (λ b. b) result (word_if_of word rest.entry.at (kinds rest.entry.tokens.now)) }
+{
+    match first(rest) {
+        Some((TokenKind::Word(found), after)) if *found == word => Ok((true, after)),
+        _ => Ok((false, rest)),
     }
 }
 

@@ -7,22 +7,24 @@
 mod clause;
 mod condition;
 mod declaration;
+mod depth;
 mod fault;
 mod form;
 mod front;
-mod laws;
+mod marks;
 mod rest;
 mod statement;
 
 pub use clause::{bound_at, depth_at, literal_at, or_literal_at};
 pub use condition::condition_at;
 pub use declaration::{field_at, function_at, initial_at, shared_at, watch_at};
+pub use depth::depth_is_that_of_braces;
 pub use fault::Fault;
 pub use form::{
     Argument, Atom, Bound, Call, Cas, Condition, Declaration, Flag, Function, GhostSet, GhostValue,
     Initial, Literal, Place, Primitive, Refresh, Relation, Set, Shared, Term, Test, Value, Watch,
 };
 pub use front::{Read, comma_name_at, first, name_at, stuck, symbol_at, word_at};
-pub use laws::{depth_is_that_of_braces, trees_spell_their_marks};
+pub use marks::trees_spell_their_marks;
 pub use rest::Rest;
 pub use statement::{argument_at, during_at, named_tail_at, primitive_line_at};

@@ -16,16 +16,10 @@ choice_falls (b ∷ bs) = omega (arith, choice_falls bs)
 
 -- no block of a statement is larger than the statement
 statement_falls : (s : Stmt) → deep-Stmt s ≤ statement_size (statement_tree s)
-statement_falls (stmts.Primitive p) = omega arith
-statement_falls (stmts.Atomic ps) = omega arith
-statement_falls (stmts.Call f a d) = omega arith
 statement_falls (stmts.If c b None) = omega arith
 statement_falls (stmts.If c b (Some e)) = omega arith
 statement_falls (stmts.Choose a b os) = omega (arith, choice_falls os.items)
-statement_falls (stmts.Loop b) = omega arith
-statement_falls stmts.Break = omega arith
-statement_falls stmts.Return = omega arith
-statement_falls (stmts.Label n) = omega arith
+statement_falls _ = omega arith
 
 -- no block of a statement is larger than the statements
 pub statements_fall : (ss : List Stmt) → most deep-Stmt ss ≤ block_size (block_tree ss)

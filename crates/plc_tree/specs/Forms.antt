@@ -4,6 +4,7 @@
 use Rattle.std.specs.Prelude.{ℕ, zero, suc, Bool, true, false, cond, Option, Some, None, List, [], ◌∷◌, Ok, Err}
 use Rattle.plc_lex.specs.declared.token.TokenKind.{TokenKind}
 use Rattle.plc_lex.specs.declared.token.TokenKind.TheVariants.{Word, Name, Symbol}
+use Rattle.plc_lex.specs.declared.token.Keyword.{Keyword}
 use Rattle.plc_lex.specs.declared.token.Keyword.TheVariants.{Struct, Ptr, Data, Shared, Call, Ghost, Thread, Init, Op}
 use Rattle.plc_lex.specs.declared.token.Keyword.TheVariants.{Atomic, If, Else, Loop, Break, Return, Skip, Choose, Or}
 use Rattle.plc_lex.specs.declared.token.Keyword.TheVariants.{Label, Active, Assume, Outline, Inv, Over, At}
@@ -134,15 +135,25 @@ statement_next block ors m _ = None
 unfoldable pub statement_of : BlockReader → OrsReader → ℕ → ℕ → List TokenKind → Read StatementTree
 statement_of block ors m at ts = led (statement_next block ors m) (step_of at ts) at ts
 
+-- the words with which a statement begins
+abbrev pub statement_word : Keyword → Bool
+statement_word Atomic = true
+statement_word If = true
+statement_word Choose = true
+statement_word Loop = true
+statement_word Break = true
+statement_word Return = true
+statement_word Label = true
+statement_word Ghost = true
+statement_word Active = true
+statement_word Assume = true
+statement_word Skip = true
+statement_word _ = false
+
 abbrev pub begins_statement : TokenKind → Bool
-begins_statement (Word Atomic) = true
-begins_statement (Word If) = true
-begins_statement (Word Choose) = true
-begins_statement (Word Loop) = true
-begins_statement (Word Break) = true
-begins_statement (Word Return) = true
-begins_statement (Word Label) = true
-begins_statement t = begins_primitive t
+begins_statement (Word w) = statement_word w
+begins_statement (Name n) = true
+begins_statement _ = false
 
 abbrev pub begins_or : TokenKind → Bool
 begins_or (Word Or) = true

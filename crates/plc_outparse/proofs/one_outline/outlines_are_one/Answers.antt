@@ -1,7 +1,7 @@
 use Rattle.std.proofs.Common.{◌∙◌, sym, ap}
 use Rattle.plc_tree.proofs.Places.{outline_is_one}
 use Rattle.plc_outparse.specs.Meaning.{outline_means}
-use Rattle.plc_outparse.proofs.laws.outlines_are_one.Goals as goal
+use Rattle.plc_outparse.proofs.one_outline.outlines_are_one.Goals as goal
 
 pub returns : goal.returns
 returns c = record {

@@ -1,5 +1,5 @@
 use Rattle.plc_outparse.proofs.Fits.{outline_fits}
-use Rattle.plc_outparse.proofs.laws.outlines_fit.Goals as goal
+use Rattle.plc_outparse.proofs.fit.outlines_fit.Goals as goal
 
 pub returns : goal.returns
 returns c = outline_fits
