@@ -2,7 +2,8 @@
 -- what it read neither what comes after that token makes a difference nor more fuel. Readers that are put together of
 -- such readers are such readers: the law of each is found by its shape.
 use Rattle.std.proofs.Common.{◌≡◌, ◌∙◌, ◌+◌, ◌<◌, ◌≤◌, ℕ, zero, suc, Bool, true, false, cond, Some, None, List, [], ◌∷◌}
-use Rattle.std.proofs.Common.{◌++◌, length, Ok, Err, refl, sym, ap, subst, arith, rules, lit≤}
+use Rattle.std.proofs.Common.{◌++◌, length, Ok, Err, refl, sym, ap, subst, inl, inr, arith, rules, lit≤}
+use Rattle.std.proofs.lemmas.Bool.{cases_Bool}
 use Rattle.std.proofs.lemmas.List.{append_assoc, length-append}
 use Rattle.std.specs.List.{AllByRecursion}
 use denote.Enum.Bare.{sameb, same_true}
@@ -395,84 +396,54 @@ any_fuel {X = X} {s = s} {pre = pre} {f = f} law n at t ts l =
 
 -- ---- single tokens
 
--- a token that may fit is passed
-abbrev passed_if : Bool → ℕ → Tokens → Pass
-passed_if b at ts = cond b (Ok (at + 1, ts)) (Err at)
+-- the test by which a reader that passes the token `k` alone passes `t`
+abbrev Passes : TokenKind → (ℕ → Tokens → Pass) → TokenKind → Type 0
+Passes k pass t = (b : Bool) × (b ≡ true → t ≡ k)
+    × ((at : ℕ) (q : Tokens) → pass at (t ∷ q) ≡ cond b (Ok (at + 1, q)) (Err at))
 
-module _ {X : Type 0} (n : ℕ) (s : Spells X) (pre : Tokens → Tokens) (g : Reader X) where
-  module _ (k : Punctuation) (law : Law n s (λ q. pre (Symbol k ∷ q)) g) where
-    abbrev after_symbol : Reader X
-    after_symbol m at ts = symbol_of k at ts >> λ at ts. g m at ts
+-- such a reader, and then the rest
+module _ {X : Type 0} {n : ℕ} {s : Spells X} {pre : Tokens → Tokens} {g : Reader X} (k : TokenKind) (fine : IsKind k)
+    (pass : ℕ → Tokens → Pass) (none : (at : ℕ) → pass at [] ≡ Err at) (first : (t : TokenKind) → Passes k pass t)
+    (law : Law n s (λ q. pre (k ∷ q)) g) where
+  other_token : (at : ℕ) (ts : Tokens) → 0 < n → ((q : Tokens) → SameHead ts q → pass at q ≡ Err at)
+      → Is s pre (λ m at ts. pass at ts >> λ at ts. g m at ts) n at ts (Err at)
+  other_token at ts l alike =
+      let e = sample n s (λ q. pre (k ∷ q)) g l law in
+      refused n s pre _ (record { tree = e.tree; rest = k ∷ e.rest; fine = (fine, e.fine); goes_on = e.goes_on }) at ts
+      (λ m q l h. rw (alike q h) refl)
 
-    other_symbol : (at : ℕ) (ts : Tokens) → 0 < n
-        → ((m : ℕ) (q : Tokens) → SameHead ts q → after_symbol m at q ≡ Err at) → Is s pre after_symbol n at ts (Err at)
-    other_symbol at ts l alike =
-        let e = sample n s (λ q. pre (Symbol k ∷ q)) g l law in
-        refused n s pre after_symbol
-        (record { tree = e.tree; rest = Symbol k ∷ e.rest; fine = (tt, e.fine); goes_on = e.goes_on }) at ts
-        (λ m q l h. alike m q h)
-
-    this_symbol : (at : ℕ) (j : Punctuation) (ts : Tokens) → length (Symbol j ∷ ts) < n → (b : Bool)
-        → sameb punctuation.the_type j k ≡ b
-        → Is s pre after_symbol n at (Symbol j ∷ ts) (passed_if b at ts >> λ at ts. g n at ts)
-    this_symbol at j ts l true e =
-        step n s pre after_symbol g at (Symbol j) ts (g n (at + 1) ts)
-        (λ m q h. ap (λ b. passed_if b at q >> λ at ts. g m at ts) e)
-        (subst (λ i. Is s (λ q. pre (Symbol i ∷ q)) g n (at + 1) ts (g n (at + 1) ts))
-        (sym (same_true punctuation.the_type (search rules) j k e)) (law (at + 1) ts (omega arith)))
-    this_symbol at j ts l false e =
-        other_symbol at (Symbol j ∷ ts) (omega arith) (λ m q (vs, h).
-        ap (λ us. after_symbol m at us) h ∙ ap (λ b. passed_if b at vs >> λ at ts. g m at ts) e)
-
-    symbol_law : Law n s pre after_symbol
-    symbol_law at [] l = other_symbol at [] l (λ m q h. rw h refl)
-    symbol_law at (Symbol j ∷ ts) l = this_symbol at j ts l (sameb punctuation.the_type j k) refl
-    symbol_law at (Word w ∷ ts) l = other_symbol at (Word w ∷ ts) (omega arith) (λ m q (vs, h). rw h refl)
-    symbol_law at (Name i ∷ ts) l = other_symbol at (Name i ∷ ts) (omega arith) (λ m q (vs, h). rw h refl)
-    symbol_law at (Number i ∷ ts) l = other_symbol at (Number i ∷ ts) (omega arith) (λ m q (vs, h). rw h refl)
-
-  module _ (k : Keyword) (law : Law n s (λ q. pre (Word k ∷ q)) g) where
-    abbrev after_word : Reader X
-    after_word m at ts = word_of k at ts >> λ at ts. g m at ts
-
-    other_word : (at : ℕ) (ts : Tokens) → 0 < n
-        → ((m : ℕ) (q : Tokens) → SameHead ts q → after_word m at q ≡ Err at) → Is s pre after_word n at ts (Err at)
-    other_word at ts l alike =
-        let e = sample n s (λ q. pre (Word k ∷ q)) g l law in
-        refused n s pre after_word
-        (record { tree = e.tree; rest = Word k ∷ e.rest; fine = (tt, e.fine); goes_on = e.goes_on }) at ts
-        (λ m q l h. alike m q h)
-
-    this_word : (at : ℕ) (j : Keyword) (ts : Tokens) → length (Word j ∷ ts) < n → (b : Bool)
-        → sameb keyword.the_type j k ≡ b
-        → Is s pre after_word n at (Word j ∷ ts) (passed_if b at ts >> λ at ts. g n at ts)
-    this_word at j ts l true e =
-        step n s pre after_word g at (Word j) ts (g n (at + 1) ts)
-        (λ m q h. ap (λ b. passed_if b at q >> λ at ts. g m at ts) e)
-        (subst (λ i. Is s (λ q. pre (Word i ∷ q)) g n (at + 1) ts (g n (at + 1) ts))
-        (sym (same_true keyword.the_type (search rules) j k e)) (law (at + 1) ts (omega arith)))
-    this_word at j ts l false e =
-        other_word at (Word j ∷ ts) (omega arith) (λ m q (vs, h).
-        ap (λ us. after_word m at us) h ∙ ap (λ b. passed_if b at vs >> λ at ts. g m at ts) e)
-
-    word_law : Law n s pre after_word
-    word_law at [] l = other_word at [] l (λ m q h. rw h refl)
-    word_law at (Word j ∷ ts) l = this_word at j ts l (sameb keyword.the_type j k) refl
-    word_law at (Symbol w ∷ ts) l = other_word at (Symbol w ∷ ts) (omega arith) (λ m q (vs, h). rw h refl)
-    word_law at (Name i ∷ ts) l = other_word at (Name i ∷ ts) (omega arith) (λ m q (vs, h). rw h refl)
-    word_law at (Number i ∷ ts) l = other_word at (Number i ∷ ts) (omega arith) (λ m q (vs, h). rw h refl)
+  then_token : Law n s pre (λ m at ts. pass at ts >> λ at ts. g m at ts)
+  then_token at [] l = rw (none at) (other_token at [] l (λ q h. rw h (none at)))
+  then_token at (t ∷ ts) l =
+      let (b, is_k, reads) = first t in elim (cases_Bool b) [
+        | inl e ↦ rw (reads at ts, e) (step n s pre _ g at t ts (g n (at + 1) ts)
+            (λ m q h. rw (reads at q, e) refl) (rw (is_k e) (law (at + 1) ts (omega arith))))
+        | inr e ↦ rw (reads at ts, e) (other_token at (t ∷ ts) (omega arith) (λ q (vs, h). rw (h, reads at vs, e) refl))
+      ]
 
 -- a symbol, and then the rest
 pub then_symbol : {X : Type 0} {n : ℕ} {s : Spells X} {pre : Tokens → Tokens} {g : Reader X} (k : Punctuation)
     → Law n s (λ q. pre (Symbol k ∷ q)) (λ m at ts. g m at ts)
     → Law n s pre (λ m at ts. symbol_of k at ts >> λ at ts. g m at ts)
-then_symbol {n = n} {s = s} {pre = pre} {g = g} k law = symbol_law n s pre g k law
+then_symbol k law = then_token (Symbol k) tt (symbol_of k) (λ at. refl) first law
+  where
+    first : (t : TokenKind) → Passes (Symbol k) (symbol_of k) t
+    first (Symbol j) =
+        let equal = same_true punctuation.the_type (search rules) j k in
+        (sameb punctuation.the_type j k, λ e. ap Symbol (equal e), λ at q. refl)
+    first _ = (false, λ e. cc, λ at q. refl)
 
 -- a word, and then the rest
 pub then_word : {X : Type 0} {n : ℕ} {s : Spells X} {pre : Tokens → Tokens} {g : Reader X} (k : Keyword)
     → Law n s (λ q. pre (Word k ∷ q)) (λ m at ts. g m at ts)
     → Law n s pre (λ m at ts. word_of k at ts >> λ at ts. g m at ts)
-then_word {n = n} {s = s} {pre = pre} {g = g} k law = word_law n s pre g k law
+then_word k law = then_token (Word k) tt (word_of k) (λ at. refl) first law
+  where
+    first : (t : TokenKind) → Passes (Word k) (word_of k) t
+    first (Word j) =
+        let equal = same_true keyword.the_type (search rules) j k in
+        (sameb keyword.the_type j k, λ e. ap Word (equal e), λ at q. refl)
+    first _ = (false, λ e. cc, λ at q. refl)
 
 -- the name `a`
 abbrev pub a_name : Text
