@@ -55,17 +55,19 @@ impl<'a> Model for Block<'a> {
     ghost use Rattle.std.specs.Prelude.{List};
     ghost use Rattle.plc_syntax.specs.Trees.{BlockTree};
     ghost use Rattle.plc_tree.specs.Postorder.{Head, block_size, heads_of, read_block, read_back};
-    ghost use Rattle.plc_tree.specs.Views.{block_tree};
-    ghost use Rattle.plc_tree.specs.Falls.{statements_fall};
-    ghost use Rattle.std.proofs.Common.{arith};
 
     ghost Value = { BlockTree };
 
+    ghost size = { block_size };
+
     ghost coded = { code_by (List Head) (coded_list (Prim.hlevel codes)) heads_of read_block read_back };
+
+    ghost use Rattle.plc_tree.specs.Views.{block_tree};
 
     ghost view = { λ b. block_tree b.stmts.items };
 
-    ghost size = { block_size };
+    ghost use Rattle.std.proofs.Common.{arith};
+    ghost use Rattle.plc_tree.specs.Falls.{statements_fall};
 
     ghost size_decreases = { λ a h. omega (arith, statements_fall a.stmts.items) };
 }
