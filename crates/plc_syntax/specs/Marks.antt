@@ -35,7 +35,10 @@ tokens_use_marks ts = list_any is_mark_word ts
 abbrev pub value_uses_marks : ValueTree → Bool
 value_uses_marks (MarkValue n) = true
 value_uses_marks (UnmarkValue n) = true
-value_uses_marks _ = false
+value_uses_marks NullValue = false
+value_uses_marks NewValue = false
+value_uses_marks (NumberValue n) = false
+value_uses_marks (PlaceValue p) = false
 
 -- an assignment puts such a value into a name
 abbrev pub set_uses_marks : SetTree → Bool
