@@ -22,12 +22,13 @@ use std::alloc::Global;
 /// The names in reach.
 #[derive(Drop)]
 pub struct Scope {
-    /// One for each name.
+    /// What each name is in the file, in the order of names.
     pub bindings: Items<Binding>,
     /// The locals of the present operation.
     pub locals: Items<Local>,
     /// The numbers of the names of the labels.
     pub labels: Items<u16>,
+    /// All names, in order of first declaration.
     pub names: Names,
 }
 

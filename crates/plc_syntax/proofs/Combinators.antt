@@ -397,13 +397,13 @@ any_fuel {X = X} {s = s} {pre = pre} {f = f} law n at t ts l =
 -- ---- single tokens
 
 -- the test by which a reader that passes the token `k` alone passes `t`
-abbrev Passes : TokenKind → (ℕ → Tokens → Pass) → TokenKind → Type 0
-Passes k pass t = (b : Bool) × (b ≡ true → t ≡ k)
+abbrev PassesAlone : TokenKind → (ℕ → Tokens → Pass) → TokenKind → Type 0
+PassesAlone k pass t = (b : Bool) × (b ≡ true → t ≡ k)
     × ((at : ℕ) (q : Tokens) → pass at (t ∷ q) ≡ cond b (Ok (at + 1, q)) (Err at))
 
 -- such a reader, and then the rest
 module _ {X : Type 0} {n : ℕ} {s : Spells X} {pre : Tokens → Tokens} {g : Reader X} (k : TokenKind) (fine : IsKind k)
-    (pass : ℕ → Tokens → Pass) (none : (at : ℕ) → pass at [] ≡ Err at) (first : (t : TokenKind) → Passes k pass t)
+    (pass : ℕ → Tokens → Pass) (none : (at : ℕ) → pass at [] ≡ Err at) (first : (t : TokenKind) → PassesAlone k pass t)
     (law : Law n s (λ q. pre (k ∷ q)) g) where
   other_token : (at : ℕ) (ts : Tokens) → 0 < n → ((q : Tokens) → SameHead ts q → pass at q ≡ Err at)
       → Is s pre (λ m at ts. pass at ts >> λ at ts. g m at ts) n at ts (Err at)
@@ -427,7 +427,7 @@ pub then_symbol : {X : Type 0} {n : ℕ} {s : Spells X} {pre : Tokens → Tokens
     → Law n s pre (λ m at ts. symbol_of k at ts >> λ at ts. g m at ts)
 then_symbol k law = then_token (Symbol k) tt (symbol_of k) (λ at. refl) first law
   where
-    first : (t : TokenKind) → Passes (Symbol k) (symbol_of k) t
+    first : (t : TokenKind) → PassesAlone (Symbol k) (symbol_of k) t
     first (Symbol j) =
         let equal = same_true punctuation.the_type (search rules) j k in
         (sameb punctuation.the_type j k, λ e. ap Symbol (equal e), λ at q. refl)
@@ -439,7 +439,7 @@ pub then_word : {X : Type 0} {n : ℕ} {s : Spells X} {pre : Tokens → Tokens} 
     → Law n s pre (λ m at ts. word_of k at ts >> λ at ts. g m at ts)
 then_word k law = then_token (Word k) tt (word_of k) (λ at. refl) first law
   where
-    first : (t : TokenKind) → Passes (Word k) (word_of k) t
+    first : (t : TokenKind) → PassesAlone (Word k) (word_of k) t
     first (Word j) =
         let equal = same_true keyword.the_type (search rules) j k in
         (sameb keyword.the_type j k, λ e. ap Word (equal e), λ at q. refl)

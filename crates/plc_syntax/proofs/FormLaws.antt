@@ -117,7 +117,8 @@ name_or_null_law : {n : ℕ} → Law n trees.name_or_null_then same (λ m at ts.
 name_or_null_law = led_law name_or_null_choice (fault None (Word Null ∷ []) (tt, tt) (λ q. refl))
 
 cas_law : {n : ℕ} (w : Bool)
-    → Law n trees.condition_then (λ q. Word Cas ∷ Symbol OpenParen ∷ word_if_then Active w q) (λ m at ts. forms.cas_of w at ts)
+    → Law n trees.condition_then (λ q. Word Cas ∷ Symbol OpenParen ∷ word_if_then Active w q)
+    (λ m at ts. forms.cas_of w at ts)
 cas_law w = then_form name_law (λ k. then_symbol Comma (then_form name_or_null_law (λ old.
     then_symbol Comma (then_form name_or_null_law (λ new. then_symbol CloseParen (last (λ q. refl)))))))
 
@@ -150,17 +151,17 @@ field_tail_choice k f (Symbol Assign) = takes _ (λ m. refl) (then_form atom_law
 field_tail_choice k f (Symbol Refresh) = takes _ (λ m. refl) (then_form name_law (λ a. last (λ q. refl)))
 field_tail_choice k f _ = leaves (λ m. refl)
 
-field_tail_law : {n : ℕ} (k f : Text) → Law n trees.primitive_then (λ q. Name k ∷ Symbol Dot ∷ Name f ∷ q)
-    (λ m at ts. forms.field_tail_of k f at ts)
-field_tail_law k f = led_law (field_tail_choice k f)
+field_tail_law : {n : ℕ} (k : Text)
+    → Law n trees.primitive_then (λ q. Name k ∷ Symbol Dot ∷ q) (λ m at ts. forms.field_tail_of k at ts)
+field_tail_law k = then_form name_law (λ f. led_law (field_tail_choice k f)
     (fault (trees.SetPrimitive (trees.SetField k f trees.NullAtom)) (Symbol Assign ∷ Word Null ∷ []) (tt, (tt, tt))
-    (λ q. refl))
+    (λ q. refl)))
 
 named_tail_choice : {n : ℕ} (k : Text) (t : TokenKind)
     → Choice n trees.primitive_then (λ q. Name k ∷ q) (λ m. forms.named_tail_next k) t
 named_tail_choice k (Symbol Assign) = takes _ (λ m. refl) (then_form value_law (λ v. last (λ q. refl)))
 named_tail_choice k (Symbol Refresh) = takes _ (λ m. refl) (then_form place_law (λ p. last (λ q. refl)))
-named_tail_choice k (Symbol Dot) = takes _ (λ m. refl) (then_form name_law (λ f. field_tail_law k f))
+named_tail_choice k (Symbol Dot) = takes _ (λ m. refl) (field_tail_law k)
 named_tail_choice k _ = leaves (λ m. refl)
 
 pub named_tail_law : {n : ℕ} (k : Text)

@@ -137,8 +137,12 @@ each_spells x_then uses one (x ∷ xs) r =
     joined (uses x) (list_any uses xs) _ _ _ (one x (each_then x_then xs r)) (each_spells x_then uses one xs r)
 
 value_spells : Spells value_then value_uses_marks
+value_spells (MarkValue n) r = refl
+value_spells (UnmarkValue n) r = refl
+value_spells NullValue r = refl
+value_spells NewValue r = refl
+value_spells (NumberValue n) r = refl
 value_spells (PlaceValue p) r = place_plain p r
-value_spells _ r = refl
 
 set_spells : Spells set_then set_uses_marks
 set_spells (SetName n v) r = value_spells v r

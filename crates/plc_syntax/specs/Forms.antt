@@ -236,16 +236,16 @@ field_tail_next n f (Symbol Refresh) =
     Some (λ at ts. name_of at ts >>= λ q at ts. Ok (RefreshPrimitive (RefreshField n f q), at, ts))
 field_tail_next n f _ = None
 
--- what follows a name, a dot and a field on the left
-abbrev pub field_tail_of : Text → Text → ℕ → List TokenKind → Read PrimitiveTree
-field_tail_of n f at ts = led (field_tail_next n f) (Err at) at ts
+-- what follows a name and a dot on the left
+abbrev pub field_tail_of : Text → ℕ → List TokenKind → Read PrimitiveTree
+field_tail_of n at ts = name_of at ts >>= λ f at ts. led (field_tail_next n f) (Err at) at ts
 
 abbrev pub named_tail_next : Text → Next PrimitiveTree
 named_tail_next n (Symbol Assign) =
     Some (λ at ts. value_of at ts >>= λ v at ts. Ok (SetPrimitive (SetName n v), at, ts))
 named_tail_next n (Symbol Refresh) =
     Some (λ at ts. place_of at ts >>= λ p at ts. Ok (RefreshPrimitive (RefreshName n p), at, ts))
-named_tail_next n (Symbol Dot) = Some (λ at ts. name_of at ts >>= λ f at ts. field_tail_of n f at ts)
+named_tail_next n (Symbol Dot) = Some (λ at ts. field_tail_of n at ts)
 named_tail_next n _ = None
 
 -- what follows a name on the left

@@ -53,7 +53,7 @@ abbrev pub word_size : Bool → ℕ
 word_size false = 0
 word_size true = 1
 
--- between the parentheses of an `if`; cas has a parenthesis of its own, three names and two commas
+-- between the parentheses of an `if`; cas has parentheses of its own, three operands and two commas
 abbrev pub condition_size : ConditionTree → ℕ
 condition_size (TestCondition t) = test_size t
 condition_size (RefreshCondition n p) = 2 + place_size p

@@ -13,7 +13,7 @@ use crate::within;
 use plc_lex::{Keyword, Symbol, TokenKind};
 
 /// A side of an equation.
-pub fn term_at<'a>(rest: Rest<'a>) -> Read<'a, Term<'a>>
+fn term_at<'a>(rest: Rest<'a>) -> Read<'a, Term<'a>>
     ensures { Gives term_tree result (term_of rest.entry.at (kinds rest.entry.tokens.now)) }
 {
     match first(rest) {
@@ -28,7 +28,7 @@ pub fn term_at<'a>(rest: Rest<'a>) -> Read<'a, Term<'a>>
 }
 
 /// What stands between the sides, and whether it says that they are equal.
-pub fn equality_at<'a>(rest: Rest<'a>) -> Read<'a, bool>
+fn equality_at<'a>(rest: Rest<'a>) -> Read<'a, bool>
     ensures { Gives (λ b. b) result (equality_of rest.entry.at (kinds rest.entry.tokens.now)) }
 {
     match first(rest) {
@@ -39,7 +39,7 @@ pub fn equality_at<'a>(rest: Rest<'a>) -> Read<'a, bool>
 }
 
 /// "retired" of a name, from after its word.
-pub fn retired_at<'a>(rest: Rest<'a>) -> Read<'a, Flag<'a>>
+fn retired_at<'a>(rest: Rest<'a>) -> Read<'a, Flag<'a>>
     ensures { Gives flag_tree result (retired_of rest.entry.at (kinds rest.entry.tokens.now)) }
 {
     let after = symbol_at(rest, Symbol::OpenParen)?;
@@ -47,7 +47,7 @@ pub fn retired_at<'a>(rest: Rest<'a>) -> Read<'a, Flag<'a>>
 }
 
 /// "marked" of a place, from after its word.
-pub fn marked_at<'a>(rest: Rest<'a>) -> Read<'a, Flag<'a>>
+fn marked_at<'a>(rest: Rest<'a>) -> Read<'a, Flag<'a>>
     ensures { Gives flag_tree result (marked_of rest.entry.at (kinds rest.entry.tokens.now)) }
 {
     let after = symbol_at(rest, Symbol::OpenParen)?;
@@ -55,7 +55,7 @@ pub fn marked_at<'a>(rest: Rest<'a>) -> Read<'a, Flag<'a>>
 }
 
 /// A flag.
-pub fn flag_at<'a>(rest: Rest<'a>) -> Read<'a, Flag<'a>>
+fn flag_at<'a>(rest: Rest<'a>) -> Read<'a, Flag<'a>>
     ensures { Gives flag_tree result (flag_of rest.entry.at (kinds rest.entry.tokens.now)) }
 {
     match first(rest) {
@@ -66,13 +66,12 @@ pub fn flag_at<'a>(rest: Rest<'a>) -> Read<'a, Flag<'a>>
 }
 
 /// An equation or an inequation.
-pub fn equation_at<'a>(rest: Rest<'a>) -> Read<'a, Literal<'a>>
+fn equation_at<'a>(rest: Rest<'a>) -> Read<'a, Literal<'a>>
     ensures { Gives literal_tree result (equation_of rest.entry.at (kinds rest.entry.tokens.now)) }
 {
     let (left, after) = term_at(rest)?;
     let (is_equal, after) = equality_at(after)?;
-    let (right, after) = term_at(after)?;
-    Ok((Literal::Equation(left, is_equal, right), after))
+    within!(Literal::Equation(left, is_equal, right); right = term_at(after))
 }
 
 /// A literal.
@@ -98,7 +97,7 @@ pub fn or_literal_at<'a>(rest: Rest<'a>) -> Read<'a, Literal<'a>>
 }
 
 /// A second quantified name, which may be left out.
-pub fn second_at<'a>(rest: Rest<'a>) -> Read<'a, Option<&'a [u8]>>
+fn second_at<'a>(rest: Rest<'a>) -> Read<'a, Option<&'a [u8]>>
     ensures { Gives text_or_none result (second_of rest.entry.at (kinds rest.entry.tokens.now)) }
 {
     match first(rest) {
@@ -109,7 +108,7 @@ pub fn second_at<'a>(rest: Rest<'a>) -> Read<'a, Option<&'a [u8]>>
 }
 
 /// One or two quantified names, from after "all".
-pub fn all_at<'a>(rest: Rest<'a>) -> Read<'a, Bound<'a>>
+fn all_at<'a>(rest: Rest<'a>) -> Read<'a, Bound<'a>>
     ensures { Gives bound_tree result (all_of rest.entry.at (kinds rest.entry.tokens.now)) }
 {
     let (name, after) = name_at(rest)?;

@@ -13,7 +13,7 @@ use crate::within;
 use plc_lex::{Keyword, Symbol, TokenKind};
 
 /// What stands between the sides of a test.
-pub fn relation_at<'a>(rest: Rest<'a>) -> Read<'a, Relation>
+fn relation_at<'a>(rest: Rest<'a>) -> Read<'a, Relation>
     ensures { Gives relation_tree result (comparison_of rest.entry.at (kinds rest.entry.tokens.now)) }
 {
     match first(rest) {
@@ -26,7 +26,7 @@ pub fn relation_at<'a>(rest: Rest<'a>) -> Read<'a, Relation>
 }
 
 /// A comparison, from after its name.
-pub fn compared_at<'a>(name: &'a [u8], rest: Rest<'a>) -> Read<'a, Test<'a>>
+fn compared_at<'a>(name: &'a [u8], rest: Rest<'a>) -> Read<'a, Test<'a>>
     ensures { Gives test_tree result (compared_of name.now rest.entry.at (kinds rest.entry.tokens.now)) }
 {
     let (relation, after) = relation_at(rest)?;
@@ -48,7 +48,7 @@ pub fn test_at<'a>(rest: Rest<'a>) -> Read<'a, Test<'a>>
 }
 
 /// A name, or `null`.
-pub fn name_or_null_at<'a>(rest: Rest<'a>) -> Read<'a, Option<&'a [u8]>>
+fn name_or_null_at<'a>(rest: Rest<'a>) -> Read<'a, Option<&'a [u8]>>
     ensures { Gives text_or_none result (name_or_null_of rest.entry.at (kinds rest.entry.tokens.now)) }
 {
     match first(rest) {
@@ -59,7 +59,7 @@ pub fn name_or_null_at<'a>(rest: Rest<'a>) -> Read<'a, Option<&'a [u8]>>
 }
 
 /// The three pointers of a cas and the parenthesis after them.
-pub fn cas_at<'a>(is_active: bool, rest: Rest<'a>) -> Read<'a, Cas<'a>>
+fn cas_at<'a>(is_active: bool, rest: Rest<'a>) -> Read<'a, Cas<'a>>
     ensures { Gives cas_tree result (cas_of is_active rest.entry.at (kinds rest.entry.tokens.now)) }
 {
     let (name, after) = name_at(rest)?;
@@ -70,17 +70,16 @@ pub fn cas_at<'a>(is_active: bool, rest: Rest<'a>) -> Read<'a, Cas<'a>>
 }
 
 /// A cas, from after its word.
-pub fn cas_condition_at<'a>(rest: Rest<'a>) -> Read<'a, Condition<'a>>
+fn cas_condition_at<'a>(rest: Rest<'a>) -> Read<'a, Condition<'a>>
     ensures { Gives condition_tree result (cas_condition_of rest.entry.at (kinds rest.entry.tokens.now)) }
 {
     let after = symbol_at(rest, Symbol::OpenParen)?;
     let (is_active, after) = word_if_at(after, Keyword::Active)?;
-    let (cas, after) = cas_at(is_active, after)?;
-    Ok((Condition::Cas(cas), after))
+    within!(Condition::Cas(cas); cas = cas_at(is_active, after))
 }
 
 /// A condition, from after its name.
-pub fn named_condition_at<'a>(name: &'a [u8], rest: Rest<'a>) -> Read<'a, Condition<'a>>
+fn named_condition_at<'a>(name: &'a [u8], rest: Rest<'a>) -> Read<'a, Condition<'a>>
     ensures { Gives condition_tree result (named_condition_of name.now rest.entry.at (kinds rest.entry.tokens.now)) }
 {
     match first(rest) {

@@ -49,7 +49,7 @@ pub fn function_at<'a>(rest: Rest<'a>) -> Read<'a, Function<'a>>
 }
 
 /// The function of hazard pointers, from after its word.
-pub fn hazard_at<'a>(rest: Rest<'a>) -> Read<'a, Watch<'a>>
+fn hazard_at<'a>(rest: Rest<'a>) -> Read<'a, Watch<'a>>
     ensures { Gives watch_tree result (hazard_of rest.entry.at (kinds rest.entry.tokens.now)) }
 {
     let after = symbol_at(rest, Symbol::OpenParen)?;
@@ -57,7 +57,7 @@ pub fn hazard_at<'a>(rest: Rest<'a>) -> Read<'a, Watch<'a>>
 }
 
 /// The two functions of epochs, from after the word.
-pub fn epoch_at<'a>(rest: Rest<'a>) -> Read<'a, Watch<'a>>
+fn epoch_at<'a>(rest: Rest<'a>) -> Read<'a, Watch<'a>>
     ensures { Gives watch_tree result (epoch_of rest.entry.at (kinds rest.entry.tokens.now)) }
 {
     let after = symbol_at(rest, Symbol::OpenParen)?;
@@ -67,7 +67,7 @@ pub fn epoch_at<'a>(rest: Rest<'a>) -> Read<'a, Watch<'a>>
 }
 
 /// What is watched, from after "use".
-pub fn scheme_at<'a>(rest: Rest<'a>) -> Read<'a, Watch<'a>>
+fn scheme_at<'a>(rest: Rest<'a>) -> Read<'a, Watch<'a>>
     ensures { Gives watch_tree result (scheme_of rest.entry.at (kinds rest.entry.tokens.now)) }
 {
     match first(rest) {
@@ -89,17 +89,16 @@ pub fn watch_at<'a>(rest: Rest<'a>) -> Read<'a, Option<Watch<'a>>>
 }
 
 /// An assignment to a field, from after the dot.
-pub fn set_field_at<'a>(name: &'a [u8], rest: Rest<'a>) -> Read<'a, Set<'a>>
+fn set_field_at<'a>(name: &'a [u8], rest: Rest<'a>) -> Read<'a, Set<'a>>
     ensures { Gives set_tree result (set_field_of name.now rest.entry.at (kinds rest.entry.tokens.now)) }
 {
     let (field, after) = name_at(rest)?;
     let after = symbol_at(after, Symbol::Assign)?;
-    let (atom, after) = atom_at(after)?;
-    Ok((Set::Field(name, field, atom), after))
+    within!(Set::Field(name, field, atom); atom = atom_at(after))
 }
 
 /// An assignment, from after its first name.
-pub fn set_of_name_at<'a>(name: &'a [u8], rest: Rest<'a>) -> Read<'a, Set<'a>>
+fn set_of_name_at<'a>(name: &'a [u8], rest: Rest<'a>) -> Read<'a, Set<'a>>
     ensures { Gives set_tree result (set_of_name name.now rest.entry.at (kinds rest.entry.tokens.now)) }
 {
     match first(rest) {

@@ -7,7 +7,8 @@ use std::alloc::{AllocError, AllocFailed};
 /// Why no tree is read. A place counts tokens from 0.
 #[derive(Clone, Copy)]
 pub enum Fault {
-    /// No tree's tokens begin with those up to and with this one.
+    /// No tree's tokens begin with those up to and with this one; the number of tokens where they
+    /// begin a tree's and are none's.
     Syntax { at: u32 },
     /// Memory ran out.
     Memory,

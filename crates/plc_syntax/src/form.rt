@@ -7,10 +7,12 @@ pub struct Shared<'a> {
     pub name: &'a [u8],
 }
 
-/// A reclaimer function: its name, and whether it takes a pointer.
+/// A reclaimer function.
 #[derive(Clone, Copy)]
 pub struct Function<'a> {
+    /// How it is called.
     pub name: &'a [u8],
+    /// Whether it takes a pointer.
     pub takes_pointer: bool,
 }
 
@@ -33,7 +35,9 @@ pub enum Watch<'a> {
 /// A name, or a field of what it points to.
 #[derive(Clone, Copy)]
 pub struct Place<'a> {
+    /// The name.
     pub name: &'a [u8],
+    /// The field, where it is one.
     pub field: Option<&'a [u8]>,
 }
 
@@ -83,8 +87,11 @@ pub enum GhostValue<'a> {
 /// An assignment to an auxiliary field of what a name points to.
 #[derive(Clone, Copy)]
 pub struct GhostSet<'a> {
+    /// What points to the node.
     pub name: &'a [u8],
+    /// The auxiliary field.
     pub field: &'a [u8],
+    /// What it is set to.
     pub value: GhostValue<'a>,
 }
 
@@ -117,13 +124,16 @@ pub enum Condition<'a> {
     Cas(Cas<'a>),
 }
 
-/// A compare-and-set: whether the pointer is claimed to be active, its name, and the names of the old
-/// and the new pointer, where none is null.
+/// A compare-and-set of a pointer.
 #[derive(Clone, Copy)]
 pub struct Cas<'a> {
+    /// Whether the pointer is claimed to be active.
     pub is_active: bool,
+    /// The pointer.
     pub name: &'a [u8],
+    /// What it is compared with; none is null.
     pub old: Option<&'a [u8]>,
+    /// What it is set to; none is null.
     pub new: Option<&'a [u8]>,
 }
 
@@ -154,10 +164,12 @@ pub enum Argument<'a> {
     Active(&'a [u8]),
 }
 
-/// A call: the function's name and its argument.
+/// A call.
 #[derive(Clone, Copy)]
 pub struct Call<'a> {
+    /// The function.
     pub name: &'a [u8],
+    /// What it is called with.
     pub argument: Argument<'a>,
 }
 

@@ -1,5 +1,6 @@
 // Single tokens at the front, a name after its comma, and how a form is put around what is read. Each reader
-// takes what it names, or answers the place of the token that stands there in its stead.
+// takes what it names, or answers the place of the token that stands there in its stead; `word_if_at` takes its
+// word if it stands there, and says so.
 ghost use Rattle.std.specs.Prelude.{◌≡◌, ◌+◌, ◌∷◌, [], MatchOption, IfSome};
 ghost use Rattle.plc_syntax.specs.Syntax.{kinds};
 ghost use Rattle.plc_syntax.specs.Views.{text_of};
@@ -13,7 +14,7 @@ use plc_lex::{Keyword, Symbol, TokenKind};
 /// A tree and what stands after it, or why there is none.
 pub type Read<'a, X> = Result<(X, Rest<'a>), Fault>;
 
-// A form around what is read, which it names, and the symbols that end it.
+/// A form, which holds what is read by its name, and then the symbols that end it.
 #[macro_export]
 macro_rules! within {
     ($form:expr; $part:ident = $read:expr $(, $end:ident)*) => {{

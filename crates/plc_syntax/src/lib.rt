@@ -1,6 +1,6 @@
 //! The syntax of a file, over `plc_lex`'s tokens: its grammar as trees with their spelling, what the words of
-//! its rules say (which tokens are a file's, where others stop being so, and how deep blocks stand within one
-//! another), and a reader of each form that holds no list. `plc_tree` reads lists, blocks and whole files with
+//! its rules say (which tokens are a file's, where others stop being so, how deep blocks stand within one
+//! another, and whether they use marks), and a reader of each form that holds no list. `plc_tree` reads lists, blocks and whole files with
 //! them: each answers the tree that is read at the front of tokens by `specs/Forms.antt`.
 #![tactic(auto)]
 

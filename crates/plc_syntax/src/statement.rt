@@ -20,11 +20,8 @@ pub fn place_of_name_at<'a>(name: &'a [u8], rest: Rest<'a>) -> Read<'a, Place<'a
     ensures { Gives place_tree result (place_of_name name.now rest.entry.at (kinds rest.entry.tokens.now)) }
 {
     match first(rest) {
-        Some((TokenKind::Symbol(Symbol::Dot), after)) => {
-            let (field, after) = name_at(after)?;
-            let field = Some(field);
-            Ok((Place { name, field }, after))
-        }
+        Some((TokenKind::Symbol(Symbol::Dot), after)) =>
+            within!(Place { name, field: Some(field) }; field = name_at(after)),
         _ => Ok((Place { name, field: None }, rest)),
     }
 }
@@ -68,7 +65,7 @@ pub fn atom_at<'a>(rest: Rest<'a>) -> Read<'a, Atom<'a>>
 }
 
 /// What is put into an auxiliary field.
-pub fn ghost_value_at<'a>(rest: Rest<'a>) -> Read<'a, GhostValue<'a>>
+fn ghost_value_at<'a>(rest: Rest<'a>) -> Read<'a, GhostValue<'a>>
     ensures { Gives ghost_value_tree result (ghost_value_of rest.entry.at (kinds rest.entry.tokens.now)) }
 {
     match first(rest) {
@@ -79,11 +76,11 @@ pub fn ghost_value_at<'a>(rest: Rest<'a>) -> Read<'a, GhostValue<'a>>
     }
 }
 
-/// What follows a name, a dot and a field on the left.
-pub fn field_tail_at<'a>(name: &'a [u8], field: &'a [u8], rest: Rest<'a>) -> Read<'a, Primitive<'a>>
-    ensures { Gives primitive_tree result
-        (field_tail_of name.now field.now rest.entry.at (kinds rest.entry.tokens.now)) }
+/// What follows a name and a dot on the left.
+fn field_tail_at<'a>(name: &'a [u8], rest: Rest<'a>) -> Read<'a, Primitive<'a>>
+    ensures { Gives primitive_tree result (field_tail_of name.now rest.entry.at (kinds rest.entry.tokens.now)) }
 {
+    let (field, rest) = name_at(rest)?;
     match first(rest) {
         Some((TokenKind::Symbol(Symbol::Assign), after)) =>
             within!(Primitive::Set(Set::Field(name, field, atom)); atom = atom_at(after)),
@@ -102,10 +99,7 @@ pub fn named_tail_at<'a>(name: &'a [u8], rest: Rest<'a>) -> Read<'a, Primitive<'
             within!(Primitive::Set(Set::Name(name, value)); value = value_at(after)),
         Some((TokenKind::Symbol(Symbol::Refresh), after)) =>
             within!(Primitive::Refresh(Refresh::Name(name, place)); place = place_at(after)),
-        Some((TokenKind::Symbol(Symbol::Dot), after)) => {
-            let (field, after) = name_at(after)?;
-            field_tail_at(name, field, after)
-        }
+        Some((TokenKind::Symbol(Symbol::Dot), after)) => field_tail_at(name, after),
         _ => Err(stuck(rest)),
     }
 }
@@ -118,12 +112,11 @@ pub fn ghost_set_at<'a>(rest: Rest<'a>) -> Read<'a, GhostSet<'a>>
     let after = symbol_at(after, Symbol::Dot)?;
     let (field, after) = name_at(after)?;
     let after = symbol_at(after, Symbol::Assign)?;
-    let (value, after) = ghost_value_at(after)?;
-    Ok((GhostSet { name, field, value }, after))
+    within!(GhostSet { name, field, value }; value = ghost_value_at(after))
 }
 
 /// A primitive, without its semicolon.
-pub fn primitive_at<'a>(rest: Rest<'a>) -> Read<'a, Primitive<'a>>
+fn primitive_at<'a>(rest: Rest<'a>) -> Read<'a, Primitive<'a>>
     ensures { Gives primitive_tree result (primitive_of rest.entry.at (kinds rest.entry.tokens.now)) }
 {
     match first(rest) {

@@ -136,22 +136,18 @@ unfoldable pub statement_of : BlockReader → OrsReader → ℕ → ℕ → List
 statement_of block ors m at ts = led (statement_next block ors m) (step_of at ts) at ts
 
 -- the words with which a statement begins
-abbrev pub statement_word : Keyword → Bool
-statement_word Atomic = true
-statement_word If = true
-statement_word Choose = true
-statement_word Loop = true
-statement_word Break = true
-statement_word Return = true
-statement_word Label = true
-statement_word Ghost = true
-statement_word Active = true
-statement_word Assume = true
-statement_word Skip = true
-statement_word _ = false
+abbrev pub is_statement_word : Keyword → Bool
+is_statement_word Atomic = true
+is_statement_word If = true
+is_statement_word Choose = true
+is_statement_word Loop = true
+is_statement_word Break = true
+is_statement_word Return = true
+is_statement_word Label = true
+is_statement_word w = begins_primitive (Word w)
 
 abbrev pub begins_statement : TokenKind → Bool
-begins_statement (Word w) = statement_word w
+begins_statement (Word w) = is_statement_word w
 begins_statement (Name n) = true
 begins_statement _ = false
 

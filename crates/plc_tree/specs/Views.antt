@@ -1,4 +1,4 @@
--- The trees of the program's forms. Names are those of the tokens, so a form stands for the tree with their bytes.
+-- The trees of statements and blocks. Names are those of the tokens, so a form stands for the tree with their bytes.
 use Rattle.std.specs.Prelude.{List, [], ◌∷◌, Option, Some, None, map}
 use Rattle.plc_syntax.specs.Trees.{StatementTree, PrimitiveStatement, AtomicStatement, CallStatement, IfStatement}
 use Rattle.plc_syntax.specs.Trees.{ChooseStatement, LoopStatement, BreakStatement, ReturnStatement, LabelStatement}

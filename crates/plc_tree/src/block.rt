@@ -6,8 +6,8 @@ ghost use Rattle.std.specs.Prelude.{◌≡◌};
 ghost use Rattle.plc_syntax.specs.Syntax.{kinds};
 ghost use Rattle.plc_syntax.specs.Forms.{first_is};
 ghost use Rattle.plc_syntax.specs.Answers.{Gives};
-ghost use Rattle.plc_tree.specs.Forms.{statement_word, begins_statement, begins_or, braced_of, loop_of, else_of, if_of, or_block_of};
-ghost use Rattle.plc_tree.specs.Forms.{ors_of, choose_of, statement_of, statements_of, block_of};
+ghost use Rattle.plc_tree.specs.Forms.{is_statement_word, begins_statement, begins_or, braced_of, loop_of, else_of};
+ghost use Rattle.plc_tree.specs.Forms.{if_of, or_block_of, ors_of, choose_of, statement_of, statements_of, block_of};
 ghost use Rattle.plc_tree.specs.Views.{statement_tree, else_tree, ors_tree};
 
 use crate::statement::{atomic_at, ended_at, label_at, named_statement_at, primitive_statement_at};
@@ -18,7 +18,7 @@ use std::alloc::Global;
 
 /// Whether a statement begins with a word.
 fn is_statement_word(word: Keyword) -> bool
-    ensures { result ≡ statement_word word }
+    ensures { result ≡ is_statement_word word }
 {
     matches!(
         word,

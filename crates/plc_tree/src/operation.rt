@@ -39,8 +39,10 @@ fn parameters_at<'a>(alloc: Global, most: usize, rest: Rest<'a>) -> Read<'a, Par
     ensures { Gives parameters_names result (parameters_of most rest.entry.at (kinds rest.entry.tokens.now)) }
 {
     match first(rest) {
-        Some((TokenKind::Name(name), after)) =>
-            within!(Parameters::Some(name.as_slice(), others); others = list_at(alloc, most, after)),
+        Some((TokenKind::Name(name), after)) => {
+            let (others, after) = list_at(alloc, most, after)?;
+            Ok((Parameters::Some(name.as_slice(), others), after))
+        }
         _ => Ok((Parameters::None, rest)),
     }
 }

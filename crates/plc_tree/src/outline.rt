@@ -20,8 +20,7 @@ fn over_item_at<'a>(alloc: Global, most: usize, rest: Rest<'a>) -> Read<'a, Item
 {
     let (name, after) = name_at(rest)?;
     let after = symbol_at(after, Symbol::Colon)?;
-    let (clause, after) = clause_at(alloc, most, after)?;
-    Ok((Item::Over(name, clause), after))
+    within!(Item::Over(name, clause); clause = clause_at(alloc, most, after))
 }
 
 /// An item at labels, from after its word.
@@ -31,8 +30,7 @@ fn at_item_at<'a>(alloc: Global, most: usize, rest: Rest<'a>) -> Read<'a, Item<'
     let (name, after) = name_at(rest)?;
     let (others, after) = list_at(alloc, most, after)?;
     let after = symbol_at(after, Symbol::Colon)?;
-    let (clause, after) = clause_at(alloc, most, after)?;
-    Ok((Item::At(name, others, clause), after))
+    within!(Item::At(name, others, clause); clause = clause_at(alloc, most, after))
 }
 
 /// An item.

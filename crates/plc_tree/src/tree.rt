@@ -17,8 +17,11 @@ pub enum Stmt<'a> {
     Atomic(Items<Primitive<'a>>),
     /// A call of a function of the reclaimer, with the label between it and its return.
     Call {
+        /// The function.
         name: &'a [u8],
+        /// What it is called with.
         argument: Argument<'a>,
+        /// The label.
         during: Option<&'a [u8]>,
     },
     /// Either of two blocks, of which the second may be left out.
