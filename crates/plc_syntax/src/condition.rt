@@ -38,11 +38,11 @@ pub fn test_at<'a>(rest: Rest<'a>) -> Read<'a, Test<'a>>
     ensures { Gives test_tree result (test_of rest.entry.at (kinds rest.entry.tokens.now)) }
 {
     match first(rest) {
+        Some((TokenKind::Name(name), after)) => compared_at(name.as_slice(), after),
         Some((TokenKind::Word(Keyword::Marked), after)) =>
             within!(Test::Marked(name); name = name_at(after)),
         Some((TokenKind::Word(Keyword::Unmarked), after)) =>
             within!(Test::Unmarked(name); name = name_at(after)),
-        Some((TokenKind::Name(name), after)) => compared_at(name.as_slice(), after),
         _ => Err(stuck(rest)),
     }
 }

@@ -19,6 +19,14 @@ use Rattle.plc_syntax.proofs.FormLaws.{during_law, comma_name_law, field_law, sh
 use Rattle.plc_syntax.proofs.FormLaws.{literal_law, or_literal_law, bound_law, depth_law}
 use Rattle.plc_tree.specs.Forms as forms
 
+-- ---- what may be left out
+
+abbrev starts_then : Spells (Option (List trees.InitialTree))
+starts_then i q = maybe_then trees.init_then i q
+
+abbrev outlined_then : Spells (Option trees.OutlineTree)
+outlined_then o q = maybe_then trees.outline_then o q
+
 -- ---- primitives
 
 pub line_begun : (p : trees.PrimitiveTree) (q : Tokens)
@@ -251,9 +259,6 @@ ghosts_law = list_law forms.begins_ghost ghost_begun ghost_law
 init_tail_law : (n : ℕ) → Law n trees.init_then (λ q. Word Init ∷ q) (λ m at ts. forms.init_tail_of m at ts)
 init_tail_law n = then_symbol OpenBrace (then_form (initials_law n) (λ is. then_symbol CloseBrace (last (λ q. refl))))
 
-abbrev starts_then : Spells (Option (List trees.InitialTree))
-starts_then i q = maybe_then trees.init_then i q
-
 init_choice : {n : ℕ} (t : TokenKind) → Choice n starts_then same (λ m. forms.init_next m) t
 init_choice (Word Init) = takes _ (λ m. refl) (then_whole (init_tail_law _) (λ is. last (λ q. refl)))
 init_choice _ = leaves (λ m. refl)
@@ -342,9 +347,6 @@ outline_tail_law n = then_symbol OpenBrace (then_form depth_law (λ d. then_form
 
 pub outline_law : (n : ℕ) → Law n trees.outline_then same (λ m at ts. forms.outline_of m at ts)
 outline_law n = then_word Outline (outline_tail_law n)
-
-abbrev outlined_then : Spells (Option trees.OutlineTree)
-outlined_then o q = maybe_then trees.outline_then o q
 
 outlined_choice : {n : ℕ} (t : TokenKind) → Choice n outlined_then same (λ m. forms.outlined_next m) t
 outlined_choice (Word Outline) = takes _ (λ m. refl) (then_whole (outline_tail_law _) (λ o. last (λ q. refl)))
