@@ -1,5 +1,7 @@
 // Syntax alone: each form of the grammar, how deep blocks may stand, beside what the parser says of it, and an
 // outline at the front of tokens.
+ghost use Rattle.std.specs.Prelude.{◌<◌, ◌^◌, length};
+
 use crate::tests::tables::{Answers, assert_answer, assert_lines};
 use crate::tests::texts::{ForTokens, Lexed, fate, number, push_came, push_repeated};
 use plc_lex::Token;
@@ -27,21 +29,42 @@ outline { depth 1; inv Top == null or not retired(Top) or retired(Top);
 inv marked(Top) or not marked(Top.next);
 over f: all x, y: x.st != made or 7 == y.val; at l, k: all x: me == none; }";
 
-// What the test of syntax alone answers.
-struct SyntaxAlone;
+// The syntax alone of a file, or of the outline at the front.
+enum Alone {
+    File,
+    Outline,
+}
 
-impl ForTokens for SyntaxAlone {
+// The fault of tokens that are no file's.
+fn file_fate(alloc: Global, all: &[Token]) -> Result<(), SyntaxFault>
+    requires { length all.now < 2 ^ 32 }
+{
+    drop(file_tree(alloc, all)?);
+    Ok(())
+}
+
+// How many tokens stand after the outline at the front, or where it is known that none stands there.
+fn push_outline(alloc: Global, answer: &mut String, all: &[Token]) -> Result<(), AllocError>
+    requires { length all.now < 2 ^ 32 }
+{
+    match outline_tree(alloc, all) {
+        Ok((_outline, rest)) => write!(answer, "{} left", rest.len()),
+        Err(Fault::Syntax { at }) => write!(answer, "syntax {at}"),
+        Err(Fault::Memory) => write!(answer, "memory"),
+    }
+}
+
+impl ForTokens for Alone {
     fn push_for(
         &self,
         alloc: Global,
         answer: &mut String,
         all: &[Token],
     ) -> Result<(), AllocError> {
-        let fate: Result<(), SyntaxFault> = match file_tree(alloc, all) {
-            Ok(_file) => Ok(()),
-            Err(fault) => Err(fault),
-        };
-        write!(answer, "{fate:?}")
+        match self {
+            Alone::File => write!(answer, "{:?}", file_fate(alloc, all)),
+            Alone::Outline => push_outline(alloc, answer, all),
+        }
     }
 }
 
@@ -52,7 +75,7 @@ fn push_nested(text: &mut String, depth: u32, inside: &str) -> Result<(), AllocE
 }
 
 fn push_both(alloc: Global, answer: &mut String, text: &str) -> Result<(), AllocError> {
-    Lexed(SyntaxAlone).push(alloc, answer, text)?;
+    Lexed(Alone::File).push(alloc, answer, text)?;
     answer.push_str(" and ")?;
     push_came(answer, fate(alloc, text), 0)
 }
@@ -94,25 +117,7 @@ fn blocks_stand_in_blocks_at_most_64_deep(rt: HostRuntime) -> Result<(), AllocEr
 
 #[test]
 fn each_form_is_syntax(rt: HostRuntime) -> Result<(), AllocError> {
-    assert_answer(&rt, rt.alloc(), &Lexed(SyntaxAlone), EACH_FORM, "Ok(())")
-}
-
-// How many tokens stand after the outline at the front, or where it is known that none stands there.
-struct OutlineAlone;
-
-impl ForTokens for OutlineAlone {
-    fn push_for(
-        &self,
-        alloc: Global,
-        answer: &mut String,
-        all: &[Token],
-    ) -> Result<(), AllocError> {
-        match outline_tree(alloc, all) {
-            Ok((_outline, rest)) => write!(answer, "{} left", rest.len()),
-            Err(Fault::Syntax { at }) => write!(answer, "syntax {at}"),
-            Err(Fault::Memory) => write!(answer, "memory"),
-        }
-    }
+    assert_answer(&rt, rt.alloc(), &Lexed(Alone::File), EACH_FORM, "Ok(())")
 }
 
 const OUTLINES: &str = "\
@@ -129,5 +134,5 @@ op => syntax 0
 
 #[test]
 fn an_outline_at_the_front_is_a_tree(rt: HostRuntime) -> Result<(), AllocError> {
-    assert_lines(&rt, rt.alloc(), &Lexed(OutlineAlone), OUTLINES)
+    assert_lines(&rt, rt.alloc(), &Lexed(Alone::Outline), OUTLINES)
 }

@@ -1,8 +1,19 @@
-// Outlines and their items over one file, each with its fate. Places count from the outline's or the item's first
-// token.
+// Outlines and their items over one file, each with its fate, and what the outline at the front of tokens comes to.
+// Places count from the outline's or the item's first token.
+ghost use Rattle.std.specs.Prelude.{◌<◌, ◌^◌, length};
+ghost use Rattle.plc_lang.specs.Fit.{FileFits};
+ghost use Rattle.plc_outparse.specs.Answers.{OpsFit};
+ghost use Rattle.plc_outparse.specs.Context.{HasFewLabels};
+
 use crate::tests::tables::{Answers, assert_lines};
-use crate::tests::texts::{count_tokens, fate, push_came, push_repeated};
-use plc_base::What1;
+use crate::tests::texts::{ForTokens, Lexed, count_tokens, fate, push_came, push_repeated, read};
+use plc_base::{FieldId, FuncId, Items, What1};
+use plc_lang::{File, Op};
+use plc_lex::Token;
+use plc_logic::Outline;
+use plc_outparse::read_outline;
+use plc_scope::{Binding, ParseFault, Scope};
+use plc_syntax::Rest;
 use std::alloc::{AllocError, Global};
 
 // A stack's declarations and operations, before its outline.
@@ -217,4 +228,117 @@ fn limits_come_in_their_order(rt: HostRuntime) -> Result<(), AllocError> {
         count: What1::Items.most(),
     };
     assert_lines(&rt, rt.alloc(), &items, MANY_ITEMS)
+}
+
+// A file of two operations, which has no outline.
+const TWO_OPERATIONS: &str = "struct Node { ptr next; } shared Top;
+op push(v) { label c; }
+op pop() { ptr t; label d; label e; }";
+
+// What its names stand for.
+const BINDINGS: &[Binding] = &[
+    Binding::Function(FuncId::RETIRE, true), // retire
+    Binding::Taken, // Node
+    Binding::PointerField(FieldId(0)), // next
+    Binding::Shared(0), // Top
+    Binding::Taken, // push
+    Binding::LocalOnly, // v
+    Binding::Taken, // c
+    Binding::Taken, // pop
+    Binding::LocalOnly, // t
+    Binding::Taken, // d
+    Binding::Taken, // e
+];
+
+// An outline, and how many tokens stand after it.
+fn outline_text(alloc: Global, outline: &Outline, left: usize) -> Result<String, AllocError> {
+    let depth = outline.depth;
+    let invariants = outline.invariants.len();
+    let items = outline.items.len();
+    format!(in alloc; "depth {depth} invariants {invariants} items {items} left {left}")
+}
+
+fn came_in_scope(
+    alloc: Global,
+    scope: &Scope,
+    ops: &[Op],
+    start: Rest,
+) -> Result<String, ParseFault>
+    requires labels { HasFewLabels scope.now }
+    requires ops { OpsFit ops.now }
+{
+    let (outline, rest) = read_outline(alloc, scope, ops, start)?;
+    let text = outline_text(alloc, &outline, rest.tokens.len());
+    drop(outline);
+    Ok(text?)
+}
+
+// What the outline at the front comes to behind a file, whose names stand for these.
+fn came_behind(
+    alloc: Global,
+    file: File,
+    bindings: Vec<Binding>,
+    start: Rest,
+) -> Result<String, ParseFault>
+    requires { FileFits file }
+{
+    let File {
+        names,
+        ops,
+        labels,
+        ..
+    } = file;
+    let scope = Scope {
+        names,
+        bindings: Items::from_vec(bindings),
+        locals: Items::new(alloc),
+        labels,
+    };
+    came_in_scope(alloc, &scope, ops.as_slice(), start)
+}
+
+fn came_at_front(alloc: Global, all: &[Token]) -> Result<String, ParseFault>
+    requires { length all.now < 2 ^ 32 }
+{
+    let bindings = BINDINGS.to_vec(alloc)?;
+    let unit = read(alloc, TWO_OPERATIONS)?;
+    came_behind(alloc, unit.file, bindings, Rest { tokens: all, at: 0 })
+}
+
+// What the outline at the front of tokens comes to, behind the two operations.
+struct OutlineAtFront;
+
+impl ForTokens for OutlineAtFront {
+    fn push_for(
+        &self,
+        alloc: Global,
+        answer: &mut String,
+        all: &[Token],
+    ) -> Result<(), AllocError> {
+        push_came(answer, came_at_front(alloc, all), 0)
+    }
+}
+
+const AT_FRONT: &str = "\
+outline { } => depth 0 invariants 0 items 0 left 0
+outline { depth 0; } => depth 0 invariants 0 items 0 left 0
+outline { depth 1; inv Top == null; } => depth 1 invariants 1 items 0 left 0
+outline { over push: v == 3; at d, e: t == Top; } => depth 0 invariants 0 items 2 left 0
+outline { inv Top == null; } } op c => depth 0 invariants 1 items 0 left 3
+outline { over pop t == null; } => syntax 4
+outline { inv z == null; inv } => syntax 8
+outline { inv Top == null; => syntax 7
+outline { inv z == null; } => undeclared 3
+outline { over push: t == null; } => undeclared 5
+outline { inv all Top: Top == null; } => duplicate 4
+outline { inv Top == push; } => sort 5
+outline { at c, d: Top == null; } => sort 5
+outline { depth 2; inv z == null; } => sort 3
+op push(v) { } => syntax 0
+ => syntax 0
+";
+
+#[test]
+fn an_outline_at_the_front_is_read_or_refused(rt: HostRuntime) -> Result<(), AllocError> {
+    assert_lines(&rt, rt.alloc(), &Lexed(OutlineAtFront), AT_FRONT)
 }

@@ -1,5 +1,8 @@
 // What a text comes to: its canonical text, or the first fault with its place, which counts from the first token
 // of the part that is the row.
+ghost use Rattle.std.specs.Prelude.{IfOk};
+ghost use Rattle.plc_lang.specs.Fit.{FileFits};
+
 use crate::tests::tables::Answers;
 use plc_base::{LARGEST_FILE, NoMemory};
 use plc_lex::{Token, tokens};
@@ -7,7 +10,9 @@ use plc_parse::{ParseFault, Unit, parse};
 use plc_print::print;
 use std::alloc::{AllocError, Global};
 
-pub(crate) fn read(alloc: Global, text: &str) -> Result<Unit, ParseFault> {
+pub(crate) fn read(alloc: Global, text: &str) -> Result<Unit, ParseFault>
+    ensures { IfOk result (λ unit. FileFits unit.file) }
+{
     if text.len() > LARGEST_FILE {
         return Err(ParseFault::Memory);
     }
