@@ -1,7 +1,8 @@
 // Blocks, and the statements that hold blocks. Each statement takes a token, so fewer stand after and
 // within one another than there are tokens: `most` is above that number, and ends the recursion. How
 // deep blocks are nested is judged before, on the tokens, so that the recursion is 66 deep at most: the body of
-// an operation, 64 blocks within it, and the one that stands too deep.
+// an operation, 64 blocks within it, and the one that stands too deep. Short blocks are many where a file
+// is long, so each gives back the room that it doesn't need.
 ghost use Rattle.std.specs.Prelude.{◌≡◌};
 ghost use Rattle.plc_syntax.specs.Syntax.{kinds};
 ghost use Rattle.plc_syntax.specs.Forms.{first_is};
@@ -132,6 +133,7 @@ fn ors_at<'a>(alloc: Global, most: usize, start: Rest<'a>) -> Read<'a, Vec<Block
     let mut rest = start;
     for i in 0..most {
         if !begins_or(rest) {
+            others.shrink_to_fit();
             return Ok((others, rest));
         }
         let (block, after) = or_block_at(alloc, most - 1 - i, rest)?;
@@ -183,6 +185,7 @@ fn statements_at<'a>(alloc: Global, most: usize, start: Rest<'a>) -> Read<'a, Bl
     let mut rest = start;
     for i in 0..most {
         if !begins_statement(rest) {
+            stmts.shrink_to_fit();
             return Ok((Block::new(stmts), rest));
         }
         let (stmt, after) = statement_at(alloc, most - 1 - i, rest)?;

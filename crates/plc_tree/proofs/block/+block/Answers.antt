@@ -3,6 +3,7 @@ use Rattle.std.proofs.lemmas.Result.{err_from_is_err_and}
 use Rattle.plc_syntax.specs.Syntax.{kinds}
 use Rattle.plc_syntax.specs.Trees.{BlockTree}
 use Rattle.plc_tree.specs.Forms.{ors_of, statements_of}
+use Rattle.plc_tree.specs.Views.{block_tree, ors_tree}
 use Rattle.plc_tree.proofs.Loops.{blocks_before, ors_turn, ors_end, ors_stop, ors_out, statements_before}
 use Rattle.plc_tree.proofs.Loops.{statements_turn, statements_end, statements_stop, statements_out}
 use Rattle.plc_tree.proofs.block.+block.Goals as goal
@@ -13,7 +14,8 @@ statements_at-returns-then-not-begins_statement t c =
     let more : c.args.most - l.i ≡ suc (c.args.most - 1 - l.i) = omega (arith, c.loop-i-test.true) in
     statements_end (c.args.most - l.i) (c.args.most - 1 - l.i) l.rest.at (kinds l.rest.tokens.now) l.stmts.items _ more
     (sym c.begins_statement.ensures ∙ c.if-not-begins_statement.true) l.invariant
-    ∙ ap (λ (b : BlockTree). Ok (b, l.rest.at, kinds l.rest.tokens.now)) (sym c.new.ensures)
+    ∙ ap (λ (b : BlockTree). Ok (b, l.rest.at, kinds l.rest.tokens.now))
+    (ap block_tree (sym c.shrink_to_fit.ensures.items) ∙ sym c.new.ensures)
 
 pub statements_at-returns-in_err-stmt : goal.statements_at-returns-in_err-stmt
 statements_at-returns-in_err-stmt t c =
@@ -51,6 +53,7 @@ ors_at-returns-then-not-begins_or t c =
     let more : c.args.most - l.i ≡ suc (c.args.most - 1 - l.i) = omega (arith, c.loop-i-test.true) in
     ors_end (c.args.most - l.i) (c.args.most - 1 - l.i) l.rest.at (kinds l.rest.tokens.now) l.others.items _ more
     (sym c.begins_or.ensures ∙ c.if-not-begins_or.true) l.invariant
+    ∙ ap (λ bs. Ok (ors_tree bs, l.rest.at, kinds l.rest.tokens.now)) (sym c.shrink_to_fit.ensures.items)
 
 pub ors_at-returns-in_err-block : goal.ors_at-returns-in_err-block
 ors_at-returns-in_err-block t c =
