@@ -17,7 +17,7 @@ use Rattle.plc_lex.specs.Characters.{keyword_of, keywords}
 use Rattle.plc_lex.specs.Spelling.{IsKind, IsName}
 use Rattle.plc_syntax.specs.Trees.{Text, each_then}
 use Rattle.plc_syntax.specs.Forms.{Read, Pass, ◌>>=◌, ◌>>◌, Next, chosen, led, first_is, list_of, word_of, symbol_of}
-use Rattle.plc_syntax.specs.Forms.{name_next, name_of, number_next, number_of}
+use Rattle.plc_syntax.specs.Forms.{name_next, name_of, name_and, number_next, number_of}
 
 abbrev pub Tokens : Type 0
 Tokens = List TokenKind
@@ -463,6 +463,11 @@ name_choice _ = leaves (λ m. refl)
 -- a name
 pub name_law : {n : ℕ} → Law n name_then same (λ m at ts. name_of at ts)
 name_law = led_law name_choice (fault a_name (Name a_name ∷ []) (a_name_fits, tt) (λ q. refl))
+
+-- a name and the symbol after it
+pub name_and_law : {n : ℕ} (k : Punctuation)
+    → Law n (λ name q. Name name ∷ Symbol k ∷ q) same (λ m at ts. name_and k at ts)
+name_and_law k = then_form name_law (λ name. then_symbol k (last (λ q. refl)))
 
 abbrev pub number_then : Spells ℕ
 number_then k q = Number k ∷ q

@@ -17,7 +17,7 @@ use Rattle.plc_syntax.specs.Trees.{Text, maybe_then, word_if_then}
 use Rattle.plc_syntax.specs.Forms as forms
 use Rattle.plc_syntax.proofs.Combinators.{Spells, same, Law, Choice, takes, leaves, last, fault, led_law, then_form}
 use Rattle.plc_syntax.proofs.Combinators.{then_whole, within, then_symbol, then_word, a_name, a_name_fits, name_law}
-use Rattle.plc_syntax.proofs.Combinators.{number_law}
+use Rattle.plc_syntax.proofs.Combinators.{name_and_law, number_law}
 
 -- ---- places and values
 
@@ -119,8 +119,8 @@ name_or_null_law = led_law name_or_null_choice (fault None (Word Null ∷ []) (t
 cas_law : {n : ℕ} (w : Bool)
     → Law n trees.condition_then (λ q. Word Cas ∷ Symbol OpenParen ∷ word_if_then Active w q)
     (λ m at ts. forms.cas_of w at ts)
-cas_law w = then_form name_law (λ k. then_symbol Comma (then_form name_or_null_law (λ old.
-    then_symbol Comma (then_form name_or_null_law (λ new. then_symbol CloseParen (last (λ q. refl)))))))
+cas_law w = then_form (name_and_law Comma) (λ k. then_form name_or_null_law (λ old.
+    then_symbol Comma (then_form name_or_null_law (λ new. then_symbol CloseParen (last (λ q. refl))))))
 
 cas_condition_law : {n : ℕ}
     → Law n trees.condition_then (λ q. Word Cas ∷ q) (λ m at ts. forms.cas_condition_of at ts)
@@ -171,8 +171,8 @@ named_tail_law k = led_law (named_tail_choice k)
     (λ q. refl))
 
 ghost_set_law : {n : ℕ} → Law n trees.ghost_set_then (λ q. Word Ghost ∷ q) (λ m at ts. forms.ghost_set_of at ts)
-ghost_set_law = then_form name_law (λ k. then_symbol Dot (then_form name_law (λ g.
-    then_symbol Assign (then_form ghost_value_law (λ v. last (λ q. refl))))))
+ghost_set_law = then_form (name_and_law Dot) (λ k. then_form (name_and_law Assign) (λ g.
+    then_form ghost_value_law (λ v. last (λ q. refl))))
 
 primitive_choice : {n : ℕ} (t : TokenKind) → Choice n trees.primitive_then same (λ m. forms.primitive_next) t
 primitive_choice (Name k) = takes _ (λ m. refl) (named_tail_law k)
@@ -192,7 +192,7 @@ primitive_line_law n = then_form primitive_law (λ p. then_symbol Semicolon (las
 
 set_field_law : {n : ℕ} (k : Text)
     → Law n trees.set_then (λ q. Name k ∷ Symbol Dot ∷ q) (λ m at ts. forms.set_field_of k at ts)
-set_field_law k = then_form name_law (λ f. then_symbol Assign (then_form atom_law (λ a. last (λ q. refl))))
+set_field_law k = then_form (name_and_law Assign) (λ f. then_form atom_law (λ a. last (λ q. refl)))
 
 set_choice : {n : ℕ} (k : Text) (t : TokenKind) → Choice n trees.set_then (λ q. Name k ∷ q) (λ m. forms.set_next k) t
 set_choice k (Symbol Assign) = takes _ (λ m. refl) (then_form value_law (λ v. last (λ q. refl)))
@@ -248,8 +248,8 @@ comma_name_law n = led_law comma_name_choice
 -- ---- declarations
 
 field_choice : {n : ℕ} (t : TokenKind) → Choice n trees.field_then same (λ m. forms.field_next) t
-field_choice (Word Ptr) = takes _ (λ m. refl) (then_form name_law (λ k. then_symbol Semicolon (last (λ q. refl))))
-field_choice (Word Data) = takes _ (λ m. refl) (then_form name_law (λ k. then_symbol Semicolon (last (λ q. refl))))
+field_choice (Word Ptr) = takes _ (λ m. refl) (then_form (name_and_law Semicolon) (λ k. last (λ q. refl)))
+field_choice (Word Data) = takes _ (λ m. refl) (then_form (name_and_law Semicolon) (λ k. last (λ q. refl)))
 field_choice _ = leaves (λ m. refl)
 
 pub field_law : (n : ℕ) → Law n trees.field_then same (λ m at ts. forms.field_of at ts)
@@ -258,19 +258,19 @@ field_law n = led_law field_choice
     (tt, (a_name_fits, (tt, tt))) (λ q. refl))
 
 pub shared_law : (n : ℕ) → Law n trees.shared_then same (λ m at ts. forms.shared_of at ts)
-shared_law n = then_word Shared (then_form name_law (λ k. then_symbol Semicolon (last (λ q. refl))))
+shared_law n = then_word Shared (within (λ q. Word Shared ∷ q) (name_and_law Semicolon))
 
 pub function_law : (n : ℕ) → Law n trees.function_then same (λ m at ts. forms.function_of at ts)
-function_law n = then_word Call (then_form name_law (λ k. then_symbol OpenParen (then_form (word_if_law Ptr) (λ w.
-    then_symbol CloseParen (then_symbol Semicolon (last (λ q. refl)))))))
+function_law n = then_word Call (then_form (name_and_law OpenParen) (λ k. then_form (word_if_law Ptr) (λ w.
+    then_symbol CloseParen (then_symbol Semicolon (last (λ q. refl))))))
 
 hazard_law : {n : ℕ} → Law n trees.scheme_then (λ q. Word Hazard ∷ q) (λ m at ts. forms.hazard_of at ts)
-hazard_law = then_symbol OpenParen (then_form name_law (λ f. then_symbol CloseParen (then_symbol Semicolon
-    (last (λ q. refl)))))
+hazard_law = then_symbol OpenParen (then_form (name_and_law CloseParen) (λ f. then_symbol Semicolon
+    (last (λ q. refl))))
 
 epoch_law : {n : ℕ} → Law n trees.scheme_then (λ q. Word Epoch ∷ q) (λ m at ts. forms.epoch_of at ts)
-epoch_law = then_symbol OpenParen (then_form name_law (λ e. then_symbol Comma (then_form name_law (λ l.
-    then_symbol CloseParen (then_symbol Semicolon (last (λ q. refl)))))))
+epoch_law = then_symbol OpenParen (then_form (name_and_law Comma) (λ e. then_form (name_and_law CloseParen) (λ l.
+    then_symbol Semicolon (last (λ q. refl)))))
 
 scheme_choice : {n : ℕ} (t : TokenKind) → Choice n trees.scheme_then same (λ m. forms.scheme_next) t
 scheme_choice (Word Hazard) = takes _ (λ m. refl) hazard_law
@@ -318,7 +318,7 @@ equality_law : {n : ℕ} → Law n equality_then same (λ m at ts. forms.equalit
 equality_law = led_law equality_choice (fault true (Symbol Equal ∷ []) (tt, tt) (λ q. refl))
 
 retired_law : {n : ℕ} → Law n trees.flag_then (λ q. Word Retired ∷ q) (λ m at ts. forms.retired_of at ts)
-retired_law = then_symbol OpenParen (then_form name_law (λ k. then_symbol CloseParen (last (λ q. refl))))
+retired_law = then_symbol OpenParen (then_form (name_and_law CloseParen) (λ k. last (λ q. refl)))
 
 marked_law : {n : ℕ} → Law n trees.flag_then (λ q. Word Marked ∷ q) (λ m at ts. forms.marked_of at ts)
 marked_law = then_symbol OpenParen (then_form place_law (λ p. then_symbol CloseParen (last (λ q. refl))))

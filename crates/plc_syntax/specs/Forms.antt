@@ -104,6 +104,10 @@ name_next _ = None
 abbrev pub name_of : ℕ → List TokenKind → Read Text
 name_of at ts = led name_next (Err at) at ts
 
+-- a name and the symbol after it
+abbrev pub name_and : Punctuation → ℕ → List TokenKind → Read Text
+name_and symbol at ts = name_of at ts >>= λ n at ts. symbol_of symbol at ts >> λ at ts. Ok (n, at, ts)
+
 abbrev pub number_next : Next ℕ
 number_next (Number n) = alone n
 number_next _ = None
@@ -199,8 +203,7 @@ name_or_null_of at ts = led name_or_null_next (Err at) at ts
 
 -- the three pointers of a cas and the parenthesis after them
 abbrev pub cas_of : Bool → ℕ → List TokenKind → Read ConditionTree
-cas_of is_active at ts = name_of at ts >>= λ n at ts.
-    symbol_of Comma at ts >> λ at ts. name_or_null_of at ts >>= λ old at ts.
+cas_of is_active at ts = name_and Comma at ts >>= λ n at ts. name_or_null_of at ts >>= λ old at ts.
     symbol_of Comma at ts >> λ at ts. name_or_null_of at ts >>= λ new at ts.
     symbol_of CloseParen at ts >> λ at ts. Ok (CasCondition is_active n old new, at, ts)
 
@@ -254,9 +257,8 @@ named_tail_of n at ts = led (named_tail_next n) (Err at) at ts
 
 -- an assignment to an auxiliary field, from after its word
 abbrev pub ghost_set_of : ℕ → List TokenKind → Read GhostSetTree
-ghost_set_of at ts = name_of at ts >>= λ n at ts.
-    symbol_of Dot at ts >> λ at ts. name_of at ts >>= λ g at ts.
-    symbol_of Assign at ts >> λ at ts. ghost_value_of at ts >>= λ v at ts. Ok (SetGhost n g v, at, ts)
+ghost_set_of at ts = name_and Dot at ts >>= λ n at ts. name_and Assign at ts >>= λ g at ts.
+    ghost_value_of at ts >>= λ v at ts. Ok (SetGhost n g v, at, ts)
 
 abbrev pub primitive_next : Next PrimitiveTree
 primitive_next (Name n) = Some (λ at ts. named_tail_of n at ts)
@@ -276,8 +278,7 @@ primitive_line_of at ts = primitive_of at ts >>= λ p at ts. symbol_of Semicolon
 
 -- an assignment to a field, from after the dot
 abbrev pub set_field_of : Text → ℕ → List TokenKind → Read SetTree
-set_field_of n at ts = name_of at ts >>= λ f at ts.
-    symbol_of Assign at ts >> λ at ts. atom_of at ts >>= λ a at ts. Ok (SetField n f a, at, ts)
+set_field_of n at ts = name_and Assign at ts >>= λ f at ts. atom_of at ts >>= λ a at ts. Ok (SetField n f a, at, ts)
 
 abbrev pub set_next : Text → Next SetTree
 set_next n (Symbol Assign) = Some (λ at ts. value_of at ts >>= λ v at ts. Ok (SetName n v, at, ts))
@@ -320,34 +321,30 @@ during_of at ts = led during_next (Ok (None, at, ts)) at ts
 -- ---- declarations
 
 abbrev pub field_next : Next FieldTree
-field_next (Word Ptr) = Some (λ at ts. name_of at ts >>= λ n at ts.
-    symbol_of Semicolon at ts >> λ at ts. Ok (PointerField n, at, ts))
-field_next (Word Data) = Some (λ at ts. name_of at ts >>= λ n at ts.
-    symbol_of Semicolon at ts >> λ at ts. Ok (DataField n, at, ts))
+field_next (Word Ptr) = Some (λ at ts. name_and Semicolon at ts >>= λ n at ts. Ok (PointerField n, at, ts))
+field_next (Word Data) = Some (λ at ts. name_and Semicolon at ts >>= λ n at ts. Ok (DataField n, at, ts))
 field_next _ = None
 
 abbrev pub field_of : ℕ → List TokenKind → Read FieldTree
 field_of at ts = led field_next (Err at) at ts
 
 abbrev pub shared_of : ℕ → List TokenKind → Read Text
-shared_of at ts = word_of Shared at ts >> λ at ts. name_of at ts >>= λ n at ts.
-    symbol_of Semicolon at ts >> λ at ts. Ok (n, at, ts)
+shared_of at ts = word_of Shared at ts >> λ at ts. name_and Semicolon at ts
 
 abbrev pub function_of : ℕ → List TokenKind → Read FunctionTree
-function_of at ts = word_of Call at ts >> λ at ts. name_of at ts >>= λ n at ts.
-    symbol_of OpenParen at ts >> λ at ts. word_if_of Ptr at ts >>= λ w at ts.
+function_of at ts = word_of Call at ts >> λ at ts. name_and OpenParen at ts >>= λ n at ts.
+    word_if_of Ptr at ts >>= λ w at ts.
     symbol_of CloseParen at ts >> λ at ts. symbol_of Semicolon at ts >> λ at ts. Ok (Declares n w, at, ts)
 
 -- a function of hazard pointers, from after its word
 abbrev pub hazard_of : ℕ → List TokenKind → Read WatchTree
-hazard_of at ts = symbol_of OpenParen at ts >> λ at ts. name_of at ts >>= λ f at ts.
-    symbol_of CloseParen at ts >> λ at ts. symbol_of Semicolon at ts >> λ at ts. Ok (UseHazard f, at, ts)
+hazard_of at ts = symbol_of OpenParen at ts >> λ at ts. name_and CloseParen at ts >>= λ f at ts.
+    symbol_of Semicolon at ts >> λ at ts. Ok (UseHazard f, at, ts)
 
 -- two functions of epochs, from after the word
 abbrev pub epoch_of : ℕ → List TokenKind → Read WatchTree
-epoch_of at ts = symbol_of OpenParen at ts >> λ at ts. name_of at ts >>= λ e at ts.
-    symbol_of Comma at ts >> λ at ts. name_of at ts >>= λ l at ts.
-    symbol_of CloseParen at ts >> λ at ts. symbol_of Semicolon at ts >> λ at ts. Ok (UseEpoch e l, at, ts)
+epoch_of at ts = symbol_of OpenParen at ts >> λ at ts. name_and Comma at ts >>= λ e at ts.
+    name_and CloseParen at ts >>= λ l at ts. symbol_of Semicolon at ts >> λ at ts. Ok (UseEpoch e l, at, ts)
 
 abbrev pub scheme_next : Next WatchTree
 scheme_next (Word Hazard) = Some (λ at ts. hazard_of at ts)
@@ -388,8 +385,8 @@ equality_of at ts = led equality_next (Err at) at ts
 
 -- "retired" of a name, from after its word
 abbrev pub retired_of : ℕ → List TokenKind → Read FlagTree
-retired_of at ts = symbol_of OpenParen at ts >> λ at ts. name_of at ts >>= λ n at ts.
-    symbol_of CloseParen at ts >> λ at ts. Ok (RetiredFlag n, at, ts)
+retired_of at ts = symbol_of OpenParen at ts >> λ at ts.
+    name_and CloseParen at ts >>= λ n at ts. Ok (RetiredFlag n, at, ts)
 
 -- "marked" of a place, from after its word
 abbrev pub marked_of : ℕ → List TokenKind → Read FlagTree

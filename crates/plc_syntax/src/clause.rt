@@ -6,7 +6,7 @@ ghost use Rattle.plc_syntax.specs.Forms.{or_literal_of, second_of, all_of, bound
 ghost use Rattle.plc_syntax.specs.Answers.{Gives};
 
 use crate::form::{Bound, Flag, Literal, Term};
-use crate::front::{Read, first, name_at, number_at, stuck, symbol_at, word_at};
+use crate::front::{Read, first, name_and_at, name_at, number_at, stuck, symbol_at, word_at};
 use crate::rest::Rest;
 use crate::statement::{place_at, place_of_name_at};
 use crate::within;
@@ -43,7 +43,7 @@ fn retired_at<'a>(rest: Rest<'a>) -> Read<'a, Flag<'a>>
     ensures { Gives flag_tree result (retired_of rest.entry.at (kinds rest.entry.tokens.now)) }
 {
     let after = symbol_at(rest, Symbol::OpenParen)?;
-    within!(Flag::Retired(name); name = name_at(after), CloseParen)
+    within!(Flag::Retired(name); name = name_and_at(after, Symbol::CloseParen))
 }
 
 /// "marked" of a place, from after its word.

@@ -6,7 +6,7 @@ ghost use Rattle.plc_syntax.specs.Forms.{cas_condition_of, named_condition_of, c
 ghost use Rattle.plc_syntax.specs.Answers.{Gives};
 
 use crate::form::{Cas, Condition, Relation, Test};
-use crate::front::{Read, first, name_at, stuck, symbol_at, word_if_at};
+use crate::front::{Read, first, name_and_at, name_at, stuck, symbol_at, word_if_at};
 use crate::rest::Rest;
 use crate::statement::{atom_at, place_at};
 use crate::within;
@@ -62,8 +62,7 @@ fn name_or_null_at<'a>(rest: Rest<'a>) -> Read<'a, Option<&'a [u8]>>
 fn cas_at<'a>(is_active: bool, rest: Rest<'a>) -> Read<'a, Cas<'a>>
     ensures { Gives cas_tree result (cas_of is_active rest.entry.at (kinds rest.entry.tokens.now)) }
 {
-    let (name, after) = name_at(rest)?;
-    let after = symbol_at(after, Symbol::Comma)?;
+    let (name, after) = name_and_at(rest, Symbol::Comma)?;
     let (old, after) = name_or_null_at(after)?;
     let after = symbol_at(after, Symbol::Comma)?;
     within!(Cas { is_active, name, old, new }; new = name_or_null_at(after), CloseParen)

@@ -8,7 +8,7 @@ ghost use Rattle.plc_syntax.specs.Forms.{scheme_of, watch_of, set_field_of, set_
 ghost use Rattle.plc_syntax.specs.Answers.{Gives};
 
 use crate::form::{Declaration, Function, Initial, Set, Shared, Watch};
-use crate::front::{Read, first, name_at, stuck, symbol_at, word_at, word_if_at};
+use crate::front::{Read, first, name_and_at, stuck, symbol_at, word_at, word_if_at};
 use crate::rest::Rest;
 use crate::statement::{atom_at, ghost_set_at, value_at};
 use crate::within;
@@ -20,9 +20,9 @@ pub fn field_at<'a>(rest: Rest<'a>) -> Read<'a, Declaration<'a>>
 {
     match first(rest) {
         Some((TokenKind::Word(Keyword::Ptr), after)) =>
-            within!(Declaration::Pointer(name); name = name_at(after), Semicolon),
+            within!(Declaration::Pointer(name); name = name_and_at(after, Symbol::Semicolon)),
         Some((TokenKind::Word(Keyword::Data), after)) =>
-            within!(Declaration::Data(name); name = name_at(after), Semicolon),
+            within!(Declaration::Data(name); name = name_and_at(after, Symbol::Semicolon)),
         _ => Err(stuck(rest)),
     }
 }
@@ -32,7 +32,7 @@ pub fn shared_at<'a>(rest: Rest<'a>) -> Read<'a, Shared<'a>>
     ensures { Gives shared_name result (shared_of rest.entry.at (kinds rest.entry.tokens.now)) }
 {
     let after = word_at(rest, Keyword::Shared)?;
-    within!(Shared { name }; name = name_at(after), Semicolon)
+    within!(Shared { name }; name = name_and_at(after, Symbol::Semicolon))
 }
 
 /// A function of the reclaimer.
@@ -40,8 +40,7 @@ pub fn function_at<'a>(rest: Rest<'a>) -> Read<'a, Function<'a>>
     ensures { Gives function_tree result (function_of rest.entry.at (kinds rest.entry.tokens.now)) }
 {
     let after = word_at(rest, Keyword::Call)?;
-    let (name, after) = name_at(after)?;
-    let after = symbol_at(after, Symbol::OpenParen)?;
+    let (name, after) = name_and_at(after, Symbol::OpenParen)?;
     within!(
         Function { name, takes_pointer };
         takes_pointer = word_if_at(after, Keyword::Ptr), CloseParen, Semicolon
@@ -53,7 +52,7 @@ fn hazard_at<'a>(rest: Rest<'a>) -> Read<'a, Watch<'a>>
     ensures { Gives watch_tree result (hazard_of rest.entry.at (kinds rest.entry.tokens.now)) }
 {
     let after = symbol_at(rest, Symbol::OpenParen)?;
-    within!(Watch::Hazard(function); function = name_at(after), CloseParen, Semicolon)
+    within!(Watch::Hazard(function); function = name_and_at(after, Symbol::CloseParen), Semicolon)
 }
 
 /// The two functions of epochs, from after the word.
@@ -61,9 +60,8 @@ fn epoch_at<'a>(rest: Rest<'a>) -> Read<'a, Watch<'a>>
     ensures { Gives watch_tree result (epoch_of rest.entry.at (kinds rest.entry.tokens.now)) }
 {
     let after = symbol_at(rest, Symbol::OpenParen)?;
-    let (enter, after) = name_at(after)?;
-    let after = symbol_at(after, Symbol::Comma)?;
-    within!(Watch::Epoch(enter, leave); leave = name_at(after), CloseParen, Semicolon)
+    let (enter, after) = name_and_at(after, Symbol::Comma)?;
+    within!(Watch::Epoch(enter, leave); leave = name_and_at(after, Symbol::CloseParen), Semicolon)
 }
 
 /// What is watched, from after "use".
@@ -92,8 +90,7 @@ pub fn watch_at<'a>(rest: Rest<'a>) -> Read<'a, Option<Watch<'a>>>
 fn set_field_at<'a>(name: &'a [u8], rest: Rest<'a>) -> Read<'a, Set<'a>>
     ensures { Gives set_tree result (set_field_of name.now rest.entry.at (kinds rest.entry.tokens.now)) }
 {
-    let (field, after) = name_at(rest)?;
-    let after = symbol_at(after, Symbol::Assign)?;
+    let (field, after) = name_and_at(rest, Symbol::Assign)?;
     within!(Set::Field(name, field, atom); atom = atom_at(after))
 }
 

@@ -4,7 +4,7 @@
 ghost use Rattle.std.specs.Prelude.{◌≡◌, ◌+◌, ◌∷◌, [], MatchOption, IfSome};
 ghost use Rattle.plc_syntax.specs.Syntax.{kinds};
 ghost use Rattle.plc_syntax.specs.Views.{text_of};
-ghost use Rattle.plc_syntax.specs.Forms.{word_of, word_if_of, symbol_of, name_of, number_of, comma_name_of};
+ghost use Rattle.plc_syntax.specs.Forms.{word_of, word_if_of, symbol_of, name_of, name_and, number_of, comma_name_of};
 ghost use Rattle.plc_syntax.specs.Answers.{Gives, Passes};
 
 use crate::fault::Fault;
@@ -94,6 +94,14 @@ pub fn comma_name_at<'a>(rest: Rest<'a>) -> Read<'a, &'a [u8]>
         Some((TokenKind::Symbol(Symbol::Comma), after)) => name_at(after),
         _ => Err(stuck(rest)),
     }
+}
+
+/// A name and the symbol after it.
+pub fn name_and_at<'a>(rest: Rest<'a>, symbol: Symbol) -> Read<'a, &'a [u8]>
+    ensures { Gives text_of result (name_and symbol rest.entry.at (kinds rest.entry.tokens.now)) }
+{
+    let (name, after) = name_at(rest)?;
+    Ok((name, symbol_at(after, symbol)?))
 }
 
 /// A number.

@@ -10,7 +10,7 @@ ghost use Rattle.plc_syntax.specs.Answers.{Gives};
 
 use crate::condition::test_at;
 use crate::form::{Argument, Atom, GhostSet, GhostValue, Place, Primitive, Refresh, Set, Value};
-use crate::front::{Read, first, name_at, stuck, symbol_at};
+use crate::front::{Read, first, name_and_at, name_at, stuck, symbol_at};
 use crate::rest::Rest;
 use crate::within;
 use plc_lex::{Keyword, Symbol, TokenKind};
@@ -108,10 +108,8 @@ pub fn named_tail_at<'a>(name: &'a [u8], rest: Rest<'a>) -> Read<'a, Primitive<'
 pub fn ghost_set_at<'a>(rest: Rest<'a>) -> Read<'a, GhostSet<'a>>
     ensures { Gives ghost_set_tree result (ghost_set_of rest.entry.at (kinds rest.entry.tokens.now)) }
 {
-    let (name, after) = name_at(rest)?;
-    let after = symbol_at(after, Symbol::Dot)?;
-    let (field, after) = name_at(after)?;
-    let after = symbol_at(after, Symbol::Assign)?;
+    let (name, after) = name_and_at(rest, Symbol::Dot)?;
+    let (field, after) = name_and_at(after, Symbol::Assign)?;
     within!(GhostSet { name, field, value }; value = ghost_value_at(after))
 }
 
