@@ -1,7 +1,8 @@
 //! The syntax of a file, over `plc_lex`'s tokens: its grammar as trees with their spelling, what the words of
 //! its rules say (which tokens are a file's, where others stop being so, how deep blocks stand within one
-//! another, and whether they use marks), and a reader of each form that holds no list. `plc_tree` reads lists, blocks and whole files with
-//! them: each answers the tree that is read at the front of tokens by `specs/Forms.antt`.
+//! another, and whether they use marks), and a reader of each form that holds no list. `plc_tree` reads lists,
+//! blocks and whole files with them: each answers the tree that is read at the front of tokens by
+//! `specs/Forms.antt`.
 #![tactic(auto)]
 
 mod clause;
@@ -24,7 +25,7 @@ pub use form::{
     Argument, Atom, Bound, Call, Cas, Condition, Declaration, Flag, Function, GhostSet, GhostValue,
     Initial, Literal, Place, Primitive, Refresh, Relation, Set, Shared, Term, Test, Value, Watch,
 };
-pub use front::{Read, comma_name_at, first, name_at, stuck, symbol_at, word_at};
+pub use front::{Read, comma_name_at, first, name_and_at, name_at, stuck, symbol_at, word_at};
 pub use marks::trees_spell_their_marks;
 pub use rest::Rest;
 pub use statement::{argument_at, during_at, named_tail_at, primitive_line_at};
