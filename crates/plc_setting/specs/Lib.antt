@@ -10,3 +10,4 @@ pub mod WellSorted
 pub mod Numbers
 -- words of private functions alone
 pub mod Kinds
+pub mod Unlisted

@@ -1,6 +1,6 @@
 // What primitives do in ground sets, a row for each. A variable is named by the constant that it has at
 // first, and every other constant names itself, so the right sides need no type of their own.
-ghost use Rattle.std.specs.Prelude.{◌≡◌, ◌++◌, ◌∷◌, [], true, IfOk, OnOk};
+ghost use Rattle.std.specs.Prelude.{◌≡◌, ◌++◌, ◌∷◌, [], true, OnOk};
 ghost use Rattle.plc_ground.specs.declared.terms.Map.TheVariants as maps;
 ghost use Rattle.plc_ground.specs.declared.terms.Symbol.TheVariants as symbols;
 ghost use Rattle.plc_lang.specs.Fit.{FileFits};
@@ -15,7 +15,6 @@ use crate::setting::Variables;
 use plc_base::{FieldId, Items, NoMemory};
 use plc_ground::{Map, Symbol};
 use plc_lang::{Arg, File, GhostVal, Num, Prim, Rel, Var, value_number};
-use std::alloc::Global;
 
 /// What a primitive does.
 #[derive(Clone, Copy)]
@@ -397,25 +396,24 @@ fn push_marked(
     }
 }
 
-/// What primitives do, in their order, where it is known whether the program uses marks.
-pub fn acts_of(
-    alloc: Global,
+/// Lists what primitives do, in their order, where it is known whether the program uses marks.
+pub fn push_acts(
+    acts: &mut Items<Act>,
     marked: bool,
     file: &File,
     variables: &Variables,
     prims: &[Prim],
-) -> Result<Items<Act>, NoMemory>
+) -> Result<(), NoMemory>
     requires fits { FileFits file.now }
     requires sorted { AreWellSorted file.now prims.now }
-    ensures { IfOk result (λ acts. acts ≡ acts_of marked file.now.ghosts variables.now prims.now) }
+    ensures { OnOk result (acts.new ≡ acts.old ++ acts_of marked file.now.ghosts variables.now prims.now) }
 {
-    let mut acts = Items::new(alloc);
     for prim in prims {
         if marked {
-            push_marked(&mut acts, file, variables, prim)?;
+            push_marked(acts, file, variables, prim)?;
         } else {
             acts.push(act_of(file, variables, prim))?;
         }
     }
-    Ok(acts)
+    Ok(())
 }

@@ -1,5 +1,5 @@
 // The nodes of a ground set: constants and, at depth 1, their pointer fields in the state before.
-ghost use Rattle.std.specs.Prelude.{◌≡◌, ◌++◌, map, OnOk, IfOk};
+ghost use Rattle.std.specs.Prelude.{◌≡◌, ◌++◌, map, OnOk};
 ghost use Rattle.plc_symbolic.specs.declared.symbolic.NodeTerm.TheVariants as nodes;
 ghost use Rattle.plc_setting.specs.Setting.{node_constants, plain_constants, fields_of, targets_of, nodes_of};
 
@@ -7,42 +7,37 @@ use crate::symbols::{push_all, push_bound, push_if};
 use plc_base::{FieldId, Items, NoMemory};
 use plc_ground::Symbol;
 use plc_symbolic::NodeTerm;
-use std::alloc::Global;
 
-/// The constants that are nodes: null, the pointer variables, the new node, those of the conclusion, and
+/// Lists the constants that are nodes: null, the pointer variables, the new node, those of the conclusion, and
 /// what was read into pointers.
-pub fn node_constants(
-    alloc: Global,
+pub fn push_node_constants(
+    list: &mut Items<Symbol>,
     pointers: &[Symbol],
     makes: bool,
     bound: u16,
     loaded: &[Symbol],
-) -> Result<Items<Symbol>, NoMemory>
-    ensures { IfOk result (λ list. list ≡ node_constants pointers.now makes bound loaded.now) }
+) -> Result<(), NoMemory>
+    ensures { OnOk result (list.new ≡ list.old ++ node_constants pointers.now makes bound loaded.now) }
 {
-    let mut list = Items::new(alloc);
     list.push(Symbol::Null)?;
-    push_all(&mut list, pointers)?;
-    push_if(&mut list, makes, Symbol::New)?;
-    push_bound(&mut list, bound)?;
-    push_all(&mut list, loaded)?;
-    Ok(list)
+    push_all(list, pointers)?;
+    push_if(list, makes, Symbol::New)?;
+    push_bound(list, bound)?;
+    push_all(list, loaded)
 }
 
-/// The node constants but for null and the new node.
-pub fn plain_constants(
-    alloc: Global,
+/// Lists the node constants but for null and the new node.
+pub fn push_plain_constants(
+    list: &mut Items<Symbol>,
     pointers: &[Symbol],
     bound: u16,
     loaded: &[Symbol],
-) -> Result<Items<Symbol>, NoMemory>
-    ensures { IfOk result (λ list. list ≡ plain_constants pointers.now bound loaded.now) }
+) -> Result<(), NoMemory>
+    ensures { OnOk result (list.new ≡ list.old ++ plain_constants pointers.now bound loaded.now) }
 {
-    let mut list = Items::new(alloc);
-    push_all(&mut list, pointers)?;
-    push_bound(&mut list, bound)?;
-    push_all(&mut list, loaded)?;
-    Ok(list)
+    push_all(list, pointers)?;
+    push_bound(list, bound)?;
+    push_all(list, loaded)
 }
 
 /// Lists constants as nodes.
@@ -83,20 +78,19 @@ fn push_fields(
     Ok(())
 }
 
-/// The constants and, where the outline is deep, the pointer fields of all that are nodes.
-pub fn nodes_of(
-    alloc: Global,
+/// Lists the constants and, where the outline is deep, the pointer fields of all that are nodes.
+pub fn push_nodes(
+    list: &mut Items<NodeTerm>,
     symbols: &[Symbol],
     deep: bool,
     constants: &[Symbol],
     fields: &[FieldId],
-) -> Result<Items<NodeTerm>, NoMemory>
-    ensures { IfOk result (λ list. list ≡ nodes_of symbols.now deep constants.now fields.now) }
+) -> Result<(), NoMemory>
+    ensures { OnOk result (list.new ≡ list.old ++ nodes_of symbols.now deep constants.now fields.now) }
 {
-    let mut list = Items::new(alloc);
-    push_constants(&mut list, symbols)?;
+    push_constants(list, symbols)?;
     if deep {
-        push_fields(&mut list, constants, fields)?;
+        push_fields(list, constants, fields)?;
     }
-    Ok(list)
+    Ok(())
 }

@@ -1,17 +1,18 @@
 // What every item of a ground set rests on: the variables of the threads, what is executed, and the nodes.
-ghost use Rattle.std.specs.Prelude.{◌≡◌, ◌≤◌, length, map, IfOk, OnOk, option_copied};
+ghost use Rattle.std.specs.Prelude.{◌≡◌, ◌≤◌, ◌++◌, [], length, map, IfOk, OnOk, option_copied};
 ghost use Rattle.plc_base.specs.Limits.{most};
 ghost use Rattle.plc_base.specs.declared.limits.What1.TheVariants as limits;
 ghost use Rattle.plc_lang.specs.Numbering.{places_from};
 ghost use Rattle.plc_setting.specs.Fit.{Fits};
 ghost use Rattle.plc_setting.specs.Kinds.{is_kind};
 ghost use Rattle.plc_setting.specs.Setting.{local_symbol, variables_of, pointer_fields_from, bound_of, setting_of};
-ghost use Rattle.plc_setting.specs.Setting.{pointer_variables, pointer_loads_from, mark_constants, with_nodes};
+ghost use Rattle.plc_setting.specs.Setting.{pointer_variables, mark_constants, without_nodes, with_nodes};
+ghost use Rattle.plc_setting.specs.Unlisted.{no_variables, with_variables, no_nodes, unlisted};
 ghost use Rattle.plc_setting.specs.Acts.{most_acts};
 ghost use Rattle.plc_setting.specs.Marks.{program_uses_marks};
 
-use crate::acts::{Act, acts_of};
-use crate::nodes::{node_constants, nodes_of, plain_constants};
+use crate::acts::{Act, push_acts};
+use crate::nodes::{push_node_constants, push_nodes, push_plain_constants};
 use crate::obligations::Obligation;
 use crate::parts::{acting_locals, conclusion, executed, has_owner, owner_locals};
 use crate::symbols::{push_all, push_marks, push_pointer_loads, push_shared};
@@ -60,6 +61,16 @@ pub struct Setting {
     pub marks: Items<Symbol>,
 }
 
+/// Variables of which nothing is listed yet.
+fn no_variables(alloc: Global) -> Variables
+    ensures { result ≡ no_variables }
+{
+    Variables {
+        pointers: Items::new(alloc),
+        values: Items::new(alloc),
+    }
+}
+
 /// The constant of a local, by its number among all locals of its operation.
 pub fn local_symbol(owner: bool, place: u16) -> Symbol
     ensures { result ≡ local_symbol owner place }
@@ -82,48 +93,45 @@ fn is_kind(local: &Local, pointers: bool) -> bool
     }
 }
 
-/// The constants of the locals of a kind, by their numbers among all locals.
-fn local_symbols(
-    alloc: Global,
+/// Lists the constants of the locals of a kind, by their numbers among all locals.
+fn push_locals(
+    list: &mut Items<Symbol>,
     locals: &[Local],
     pointers: bool,
     owner: bool,
-) -> Result<Items<Symbol>, NoMemory>
+) -> Result<(), NoMemory>
     requires { length locals.now ≤ most limits.Locals }
-    ensures { IfOk result (λ list. list
-        ≡ map (local_symbol owner) (places_from (is_kind pointers) 0 locals.now)) }
+    ensures { OnOk result (list.new ≡ list.old
+        ++ map (local_symbol owner) (places_from (is_kind pointers) 0 locals.now)) }
 {
-    let mut list = Items::new(alloc);
     for (place, local) in locals.iter().enumerate() {
         if is_kind(local, pointers) {
             list.push(local_symbol(owner, place as u16))?;
         }
     }
-    Ok(list)
+    Ok(())
 }
 
-/// The constants of locals, of the acting thread or of the other one.
-fn variables_of(alloc: Global, locals: &[Local], owner: bool) -> Result<Variables, NoMemory>
+/// Lists the constants of locals, of the acting thread or of the other one.
+fn push_variables(v: &mut Variables, locals: &[Local], owner: bool) -> Result<(), NoMemory>
     requires { length locals.now ≤ most limits.Locals }
-    ensures { IfOk result (λ v. v ≡ variables_of owner locals.now) }
+    ensures { OnOk result (v.new ≡ with_variables v.old (variables_of owner locals.now)) }
 {
-    let pointers = local_symbols(alloc, locals, true, owner)?;
-    let values = local_symbols(alloc, locals, false, owner)?;
-    Ok(Variables { pointers, values })
+    push_locals(&mut v.pointers, locals, true, owner)?;
+    push_locals(&mut v.values, locals, false, owner)
 }
 
-/// The pointer fields.
-fn pointer_fields(alloc: Global, fields: &[Field]) -> Result<Items<FieldId>, NoMemory>
+/// Lists the pointer fields.
+fn push_pointer_fields(ids: &mut Items<FieldId>, fields: &[Field]) -> Result<(), NoMemory>
     requires { length fields.now ≤ most limits.Fields }
-    ensures { IfOk result (λ ids. ids ≡ pointer_fields_from 0 fields.now) }
+    ensures { OnOk result (ids.new ≡ ids.old ++ pointer_fields_from 0 fields.now) }
 {
-    let mut ids = Items::new(alloc);
     for (k, field) in fields.iter().enumerate() {
         if field.pointer {
             ids.push(FieldId(k as u16))?;
         }
     }
-    Ok(ids)
+    Ok(())
 }
 
 /// How many names the conclusion has, if it is a clause.
@@ -136,48 +144,66 @@ pub fn bound_of(clause: Option<&Clause>) -> u16
     }
 }
 
-/// The pointer variables of all threads that there are.
-fn pointer_variables(
-    alloc: Global,
+/// Lists the pointer variables of all threads that there are.
+fn push_pointer_variables(
+    list: &mut Items<Symbol>,
     shared: usize,
     mine: &Variables,
     theirs: &Variables,
-) -> Result<Items<Symbol>, NoMemory>
+) -> Result<(), NoMemory>
     requires { shared ≤ most limits.Shared }
-    ensures { IfOk result (λ list. list ≡ pointer_variables shared mine.now theirs.now) }
+    ensures { OnOk result (list.new ≡ list.old ++ pointer_variables shared mine.now theirs.now) }
 {
-    let mut list = Items::new(alloc);
-    push_shared(&mut list, shared)?;
-    push_all(&mut list, mine.pointers.as_slice())?;
-    push_all(&mut list, theirs.pointers.as_slice())?;
-    Ok(list)
+    push_shared(list, shared)?;
+    push_all(list, mine.pointers.as_slice())?;
+    push_all(list, theirs.pointers.as_slice())
 }
 
-/// The nodes that are read.
-fn loaded_pointers(alloc: Global, acts: &[Act]) -> Result<Items<Symbol>, NoMemory>
-    requires { length acts.now ≤ most_acts }
-    ensures { IfOk result (λ list. list ≡ pointer_loads_from 0 acts.now) }
-{
-    let mut list = Items::new(alloc);
-    push_pointer_loads(&mut list, acts)?;
-    Ok(list)
-}
-
-/// The marks of pointer variables and of pointers that are read, where the program uses marks.
-fn mark_constants(
-    alloc: Global,
+/// Lists the marks of pointer variables and of pointers that are read, where the program uses marks.
+fn push_mark_constants(
+    list: &mut Items<Symbol>,
     marked: bool,
     pointers: &[Symbol],
     loaded: &[Symbol],
-) -> Result<Items<Symbol>, NoMemory>
-    ensures { IfOk result (λ list. list ≡ mark_constants marked pointers.now loaded.now) }
+) -> Result<(), NoMemory>
+    ensures { OnOk result (list.new ≡ list.old ++ mark_constants marked pointers.now loaded.now) }
 {
-    let mut list = Items::new(alloc);
     if marked {
-        push_marks(&mut list, pointers)?;
-        push_marks(&mut list, loaded)?;
+        push_marks(list, pointers)?;
+        push_marks(list, loaded)?;
     }
-    Ok(list)
+    Ok(())
+}
+
+/// Lists the nodes of a setting, and what they are found from, where the rest of it is there. What it reads into
+/// pointers, and the constants at which premises are instantiated, are listed beside it.
+fn push_all_nodes(
+    flow: &Flow,
+    outline: &Outline,
+    s: &mut Setting,
+    loaded: &mut Items<Symbol>,
+    plain: &mut Items<Symbol>,
+) -> Result<(), NoMemory>
+    requires fits { Fits flow.now outline.now }
+    requires few { length s.old.acts ≤ most_acts }
+    requires unlisted { s.old ≡ no_nodes s.old }
+    requires none_loaded { loaded.old ≡ [] }
+    requires none_plain { plain.old ≡ [] }
+    ensures { OnOk result (s.new ≡ with_nodes flow.now outline.now s.old) }
+{
+    let deep = outline.depth == 1;
+    push_pointer_loads(loaded, s.acts.as_slice())?;
+    push_pointer_variables(&mut s.pointers, flow.file.shared.len(), &s.mine, &s.theirs)?;
+    push_pointer_fields(&mut s.fields, flow.file.fields.as_slice())?;
+    let pointers = s.pointers.as_slice();
+    let loads = loaded.as_slice();
+    push_node_constants(&mut s.constants, pointers, s.makes, s.bound, loads)?;
+    push_plain_constants(plain, pointers, s.bound, loads)?;
+    let roots = s.constants.as_slice();
+    let fields = s.fields.as_slice();
+    push_nodes(&mut s.nodes, roots, deep, roots, fields)?;
+    push_nodes(&mut s.instances, plain.as_slice(), deep, roots, fields)?;
+    push_mark_constants(&mut s.marks, s.marked, pointers, loads)
 }
 
 /// Lists the nodes of a setting, and what they are found from, where the rest of it is there.
@@ -189,20 +215,57 @@ fn list_nodes(
 ) -> Result<(), NoMemory>
     requires fits { Fits flow.now outline.now }
     requires few { length s.old.acts ≤ most_acts }
+    requires unlisted { s.old ≡ no_nodes s.old }
     ensures { OnOk result (s.new ≡ with_nodes flow.now outline.now s.old) }
 {
-    let deep = outline.depth == 1;
-    let loaded = loaded_pointers(alloc, s.acts.as_slice())?;
-    s.pointers = pointer_variables(alloc, flow.file.shared.len(), &s.mine, &s.theirs)?;
-    s.fields = pointer_fields(alloc, flow.file.fields.as_slice())?;
-    let pointers = s.pointers.as_slice();
-    s.constants = node_constants(alloc, pointers, s.makes, s.bound, loaded.as_slice())?;
-    let plain = plain_constants(alloc, pointers, s.bound, loaded.as_slice())?;
-    let roots = s.constants.as_slice();
-    s.nodes = nodes_of(alloc, roots, deep, roots, s.fields.as_slice())?;
-    s.instances = nodes_of(alloc, plain.as_slice(), deep, roots, s.fields.as_slice())?;
-    s.marks = mark_constants(alloc, s.marked, pointers, loaded.as_slice())?;
-    Ok(())
+    let mut loaded = Items::new(alloc);
+    let mut plain = Items::new(alloc);
+    push_all_nodes(flow, outline, s, &mut loaded, &mut plain)
+}
+
+/// Lists the variables of a setting of which nothing is listed yet, and what is executed.
+fn list_acts(
+    flow: &Flow,
+    outline: &Outline,
+    o: &Obligation,
+    s: &mut Setting,
+) -> Result<(), NoMemory>
+    requires fits { Fits flow.now outline.now }
+    requires unlisted { s.old ≡ unlisted flow.now outline.now o.now }
+    ensures { OnOk result (s.new ≡ without_nodes flow.now outline.now o.now) }
+{
+    push_variables(&mut s.mine, acting_locals(flow, o), false)?;
+    push_variables(&mut s.theirs, owner_locals(flow, o), true)?;
+    push_acts(&mut s.acts, s.marked, &flow.file, &s.mine, executed(flow, o))
+}
+
+/// A setting of which nothing is listed yet.
+fn unlisted(
+    alloc: Global,
+    marked: bool,
+    flow: &Flow,
+    outline: &Outline,
+    o: &Obligation,
+) -> Setting
+    requires fits { Fits flow.now outline.now }
+    requires marked { marked ≡ program_uses_marks flow.now outline.now }
+    ensures { result ≡ unlisted flow.now outline.now o.now }
+{
+    Setting {
+        marked,
+        mine: no_variables(alloc),
+        theirs: no_variables(alloc),
+        owned: has_owner(o),
+        acts: Items::new(alloc),
+        makes: has_new(executed(flow, o)),
+        bound: bound_of(conclusion(flow, outline, o)),
+        pointers: Items::new(alloc),
+        constants: Items::new(alloc),
+        nodes: Items::new(alloc),
+        instances: Items::new(alloc),
+        fields: Items::new(alloc),
+        marks: Items::new(alloc),
+    }
 }
 
 /// The setting of an obligation, where it is known whether the program uses marks.
@@ -218,24 +281,8 @@ pub fn setting_of(
     ensures setting { IfOk result (λ s. s ≡ setting_of flow.now outline.now o.now) }
     ensures few { IfOk result (λ s. length s.acts ≤ most_acts) }
 {
-    let mine = variables_of(alloc, acting_locals(flow, o), false)?;
-    let theirs = variables_of(alloc, owner_locals(flow, o), true)?;
-    let acts = acts_of(alloc, marked, &flow.file, &mine, executed(flow, o))?;
-    let mut s = Setting {
-        marked,
-        mine,
-        theirs,
-        owned: has_owner(o),
-        acts,
-        makes: has_new(executed(flow, o)),
-        bound: bound_of(conclusion(flow, outline, o)),
-        pointers: Items::new(alloc),
-        constants: Items::new(alloc),
-        nodes: Items::new(alloc),
-        instances: Items::new(alloc),
-        fields: Items::new(alloc),
-        marks: Items::new(alloc),
-    };
+    let mut s = unlisted(alloc, marked, flow, outline, o);
+    list_acts(flow, outline, o, &mut s)?;
     list_nodes(alloc, flow, outline, &mut s)?;
     Ok(s)
 }

@@ -1,6 +1,6 @@
 use Rattle.std.proofs.Common.{arith}
 use Rattle.plc_setting.proofs.Fitting.{sorted_at}
-use Rattle.plc_setting.proofs.acts.acts_of.Goals as goal
+use Rattle.plc_setting.proofs.acts.push_acts.Goals as goal
 
 pub act_of-requires-clause-sorted : goal.act_of-requires-clause-sorted
 act_of-requires-clause-sorted c =
