@@ -5,9 +5,9 @@ ghost use Rattle.plc_lang.specs.Numbering.{values_in};
 ghost use Rattle.plc_setting.specs.Acts.{most_acts};
 ghost use Rattle.plc_ground.specs.declared.terms.Symbol.TheVariants as symbols;
 ghost use Rattle.plc_setting.specs.Fit.{Fits};
-ghost use Rattle.plc_setting.specs.Setting.{only_if, constants_of};
+ghost use Rattle.plc_setting.specs.Setting.{only_if, numbers_of, constants_of};
 
-use crate::numbers::numbers_of;
+use crate::numbers::put_all;
 use crate::setting::Setting;
 use crate::symbols::{push_all, push_bound, push_if, push_loads, push_shared, push_values};
 use plc_base::{Items, NoMemory};
@@ -67,6 +67,44 @@ fn push_truths_and_threads(
     push_if(list, owned, Symbol::You)
 }
 
+/// Lists the numbers of the file and its outline, ascending, each once.
+fn push_all_numbers(
+    list: &mut Items<Symbol>,
+    alloc: Global,
+    flow: &Flow,
+    outline: &Outline,
+) -> Result<(), NoMemory>
+    ensures { OnOk result (list.new ≡ list.old ++ map symbols.Number (numbers_of flow.now outline.now)) }
+{
+    let mut numbers = BTreeSet::new(alloc);
+    put_all(&mut numbers, flow, outline)?;
+    push_numbers(list, &numbers)
+}
+
+/// Lists the constants of a setting, in order.
+fn push_constants(
+    list: &mut Items<Symbol>,
+    alloc: Global,
+    flow: &Flow,
+    outline: &Outline,
+    s: &Setting,
+) -> Result<(), NoMemory>
+    requires fits { Fits flow.now outline.now }
+    requires few { length s.now.acts ≤ most_acts }
+    ensures { OnOk result (list.new ≡ list.old ++ constants_of flow.now outline.now s.now) }
+{
+    list.push(Symbol::Null)?;
+    push_shared(list, flow.file.shared.len())?;
+    push_variables(list, s)?;
+    push_if(list, s.makes, Symbol::New)?;
+    push_bound(list, s.bound)?;
+    push_loads(list, s.acts.as_slice())?;
+    push_truths_and_threads(list, s.marked, s.owned)?;
+    push_values(list, count_values(flow.file.ghosts.as_slice()))?;
+    push_all_numbers(list, alloc, flow, outline)?;
+    push_all(list, s.marks.as_slice())
+}
+
 /// The constants of a setting, in order.
 pub fn constants_of(
     alloc: Global,
@@ -79,16 +117,6 @@ pub fn constants_of(
     ensures { IfOk result (λ list. list ≡ constants_of flow.now outline.now s.now) }
 {
     let mut list = Items::new(alloc);
-    list.push(Symbol::Null)?;
-    push_shared(&mut list, flow.file.shared.len())?;
-    push_variables(&mut list, s)?;
-    push_if(&mut list, s.makes, Symbol::New)?;
-    push_bound(&mut list, s.bound)?;
-    push_loads(&mut list, s.acts.as_slice())?;
-    push_truths_and_threads(&mut list, s.marked, s.owned)?;
-    push_values(&mut list, count_values(flow.file.ghosts.as_slice()))?;
-    let numbers = numbers_of(alloc, flow, outline)?;
-    push_numbers(&mut list, &numbers)?;
-    push_all(&mut list, s.marks.as_slice())?;
+    push_constants(&mut list, alloc, flow, outline, s)?;
     Ok(list)
 }

@@ -1,14 +1,13 @@
 // The numbers of a file, ascending and each once: 0, those of its primitives, those of its outline.
-ghost use Rattle.std.specs.Prelude.{◌≡◌, flat_map, OnOk, IfOk};
+ghost use Rattle.std.specs.Prelude.{◌≡◌, flat_map, OnOk};
 ghost use Rattle.std.specs.Option.{option_to_list};
 ghost use Rattle.plc_setting.specs.Setting.{num_numbers, prim_numbers, term_numbers, literal_numbers, clause_numbers};
-ghost use Rattle.plc_setting.specs.Setting.{step_numbers, item_numbers, with_numbers, numbers_of};
+ghost use Rattle.plc_setting.specs.Setting.{step_numbers, item_numbers, with_numbers, all_numbers};
 
 use plc_base::NoMemory;
 use plc_flow::{Flow, Step};
 use plc_lang::{Num, Prim};
 use plc_logic::{Clause, Item, Literal, Outline, Term};
-use std::alloc::Global;
 use std::collections::BTreeSet;
 
 /// The number that is put into data, if it is one.
@@ -116,15 +115,17 @@ fn put_of_items(numbers: &mut BTreeSet<u32>, items: &[Item]) -> Result<(), NoMem
     Ok(())
 }
 
-/// The numbers of the file and its outline, ascending, each once, 0 among them.
-pub fn numbers_of(alloc: Global, flow: &Flow, outline: &Outline) -> Result<BTreeSet<u32>, NoMemory>
-    ensures { IfOk result (λ numbers. numbers.keys ≡ numbers_of flow.now outline.now) }
+/// Adds the numbers of the file and its outline, 0 among them.
+pub fn put_all(
+    numbers: &mut BTreeSet<u32>,
+    flow: &Flow,
+    outline: &Outline,
+) -> Result<(), NoMemory>
+    ensures { OnOk result (numbers.new.keys ≡ with_numbers numbers.old.keys (all_numbers flow.now outline.now)) }
 {
-    let mut numbers = BTreeSet::new(alloc);
-    put(&mut numbers, Some(0))?;
-    put_of_prims(&mut numbers, flow.file.init.as_slice())?;
-    put_of_steps(&mut numbers, flow.steps.as_slice())?;
-    put_of_clauses(&mut numbers, outline.invariants.as_slice())?;
-    put_of_items(&mut numbers, outline.items.as_slice())?;
-    Ok(numbers)
+    put(numbers, Some(0))?;
+    put_of_prims(numbers, flow.file.init.as_slice())?;
+    put_of_steps(numbers, flow.steps.as_slice())?;
+    put_of_clauses(numbers, outline.invariants.as_slice())?;
+    put_of_items(numbers, outline.items.as_slice())
 }

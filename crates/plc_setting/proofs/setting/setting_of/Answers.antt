@@ -1,5 +1,4 @@
-use Rattle.std.proofs.Common.{◌≡◌, refl, ap, sym, ◌∙◌}
-use Rattle.plc_setting.specs.Acts.{acts_of}
+use Rattle.std.proofs.Common.{refl, ap, ◌∙◌}
 use Rattle.plc_setting.specs.Setting.{with_nodes}
 use Rattle.plc_setting.proofs.Fitting.{acts_short}
 use Rattle.plc_setting.proofs.setting.setting_of.Goals as goal

@@ -1,4 +1,4 @@
-use Rattle.std.proofs.Common.{◌≡◌, List, [], ◌∷◌, ◌++◌, map, refl, ap, ◌∙◌}
+use Rattle.std.proofs.Common.{◌≡◌, List, [], ◌∷◌, ◌++◌, map, refl, ap, ◌∙◌, append_assoc, subst, OnOk}
 use Rattle.std.specs.List.{sum_by}
 use Rattle.plc_lang.specs.Numbering.{values_in}
 use Rattle.plc_ground.specs.declared.terms.Symbol.{Symbol}
@@ -6,7 +6,7 @@ use Rattle.plc_ground.specs.declared.terms.Symbol.TheVariants as symbols
 use Rattle.plc_setting.specs.Setting.{below, loads_from, only_if}
 use Rattle.plc_setting.proofs.Fitting.{values_few}
 use Rattle.plc_setting.proofs.Runs.{follows, nine_runs}
-use Rattle.plc_setting.proofs.constants.constants_of.Goals as goal
+use Rattle.plc_setting.proofs.constants.push_constants.Goals as goal
 
 pub count_values-requires : goal.count_values-requires
 count_values-requires c = rw c.as_slice-2.ensures (values_few c.args.flow.now.file c.requires.fits.file)
@@ -15,8 +15,8 @@ pub returns : goal.returns
 returns c =
     let values = c.count_values.ensures ∙ ap (sum_by values_in) c.as_slice-2.ensures in
     let s = c.args.s.now in
-    let null : c.push.new.self ≡ symbols.Null ∷ [] =
-    c.in_ok-push.ensures.ok ∙ ap (λ (xs : List Symbol). xs ++ symbols.Null ∷ []) c.new-list.ensures in
+    let start : List Symbol = c.args.list.now in
+    let null : c.push.new.self ≡ start ++ symbols.Null ∷ [] = c.in_ok-push.ensures.ok in
     let shared =
     follows _ _ _ _ _ c.in_ok-push_shared.ensures (ap (λ n. map symbols.Shared (below n)) c.len.ensures) null in
     let variables = follows _ _ _ _ _ c.in_ok-push_variables.ensures refl shared in
@@ -26,10 +26,10 @@ returns c =
     let threads = follows _ _ _ _ _ c.in_ok-push_truths_and_threads.ensures refl loads in
     let enumerated =
     follows _ _ _ _ _ c.in_ok-push_values.ensures (ap (λ n. map symbols.Value (below n)) values) threads in
-    let numbers =
-    follows _ _ _ _ _ c.in_ok-push_numbers.ensures (ap (map symbols.Number) c.in_ok-numbers.ensures) enumerated in
-    let all = follows _ _ _ _ _ c.in_ok-push_all.ensures c.as_slice-3.ensures numbers in
+    let numbers = follows _ _ _ _ _ c.in_ok-push_all_numbers.ensures refl enumerated in
+    let all = follows _ (c.push_all_numbers.new.list ++ c.as_slice-3.result.now) _ _ _ refl c.as_slice-3.ensures numbers in
     let truths = symbols.Yes ∷ only_if s.marked (symbols.No ∷ []) in
     let people = symbols.Nobody ∷ symbols.Me ∷ only_if s.owned (symbols.You ∷ []) in
-    all ∙ nine_runs (symbols.Null ∷ []) _ s.mine.pointers s.mine.values s.theirs.pointers s.theirs.values
+    subst (λ (xs : List Symbol). OnOk c.push_all.result (c.push_all.new.list ≡ xs)) (all ∙ nine_runs (start ++ symbols.Null ∷ []) _ s.mine.pointers s.mine.values s.theirs.pointers s.theirs.values
     (only_if s.makes (symbols.New ∷ [])) _ _ truths people _ _ _
+    ∙ append_assoc start (symbols.Null ∷ []) _) c.push_all.ensures
