@@ -250,12 +250,13 @@ const BINDINGS: &[Binding] = &[
     Binding::Taken, // e
 ];
 
-// An outline, and how many tokens stand after it.
-fn outline_text(alloc: Global, outline: &Outline, left: usize) -> Result<String, AllocError> {
+// An outline, the place after it, and how many tokens stand there.
+fn outline_text(alloc: Global, outline: &Outline, rest: Rest) -> Result<String, AllocError> {
     let depth = outline.depth;
     let invariants = outline.invariants.len();
     let items = outline.items.len();
-    format!(in alloc; "depth {depth} invariants {invariants} items {items} left {left}")
+    let (at, left) = (rest.at, rest.tokens.len());
+    format!(in alloc; "depth {depth} invariants {invariants} items {items} to {at} left {left}")
 }
 
 fn came_in_scope(
@@ -268,7 +269,7 @@ fn came_in_scope(
     requires ops { OpsFit ops.now }
 {
     let (outline, rest) = read_outline(alloc, scope, ops, start)?;
-    let text = outline_text(alloc, &outline, rest.tokens.len());
+    let text = outline_text(alloc, &outline, rest);
     drop(outline);
     Ok(text?)
 }
@@ -297,15 +298,19 @@ fn came_behind(
     came_in_scope(alloc, &scope, ops.as_slice(), start)
 }
 
+// What the outline after the first token comes to.
 fn came_at_front(alloc: Global, all: &[Token]) -> Result<String, ParseFault>
     requires { length all.now < 2 ^ 32 }
 {
     let bindings = BINDINGS.to_vec(alloc)?;
     let unit = read(alloc, TWO_OPERATIONS)?;
-    came_behind(alloc, unit.file, bindings, Rest { tokens: all, at: 0 })
+    match all {
+        [_, tokens @ ..] => came_behind(alloc, unit.file, bindings, Rest { tokens, at: 1 }),
+        [] => came_behind(alloc, unit.file, bindings, Rest { tokens: all, at: 0 }),
+    }
 }
 
-// What the outline at the front of tokens comes to, behind the two operations.
+// What the outline comes to, whose place is one more than in the text.
 struct OutlineAtFront;
 
 impl ForTokens for OutlineAtFront {
@@ -320,21 +325,22 @@ impl ForTokens for OutlineAtFront {
 }
 
 const AT_FRONT: &str = "\
-outline { } => depth 0 invariants 0 items 0 left 0
-outline { depth 0; } => depth 0 invariants 0 items 0 left 0
-outline { depth 1; inv Top == null; } => depth 1 invariants 1 items 0 left 0
-outline { over push: v == 3; at d, e: t == Top; } => depth 0 invariants 0 items 2 left 0
-outline { inv Top == null; } } op c => depth 0 invariants 1 items 0 left 3
-outline { over pop t == null; } => syntax 4
-outline { inv z == null; inv } => syntax 8
-outline { inv Top == null; => syntax 7
-outline { inv z == null; } => undeclared 3
-outline { over push: t == null; } => undeclared 5
-outline { inv all Top: Top == null; } => duplicate 4
-outline { inv Top == push; } => sort 5
-outline { at c, d: Top == null; } => sort 5
-outline { depth 2; inv z == null; } => sort 3
-op push(v) { } => syntax 0
+} outline { } => depth 0 invariants 0 items 0 to 4 left 0
+} outline { depth 0; } => depth 0 invariants 0 items 0 to 7 left 0
+} outline { depth 1; inv Top == null; } => depth 1 invariants 1 items 0 to 12 left 0
+} outline { over push: v == 3; at d, e: t == Top; } => depth 0 invariants 0 items 2 to 20 left 0
+} outline { inv Top == null; } } op c => depth 0 invariants 1 items 0 to 9 left 3
+} outline { over pop t == null; } => syntax 5
+} outline { inv z == null; inv } => syntax 9
+} outline { inv Top == null; => syntax 8
+} outline { inv z == null; } => undeclared 4
+} outline { over push: t == null; } => undeclared 6
+} outline { inv all Top: Top == null; } => duplicate 5
+} outline { inv Top == push; } => sort 6
+} outline { at c, d: Top == null; } => sort 6
+} outline { depth 2; inv z == null; } => sort 4
+} op push(v) { } => syntax 1
+} => syntax 1
  => syntax 0
 ";
 
