@@ -3,13 +3,18 @@ use crate::tests::tables::{Answers, assert_answer, assert_lines};
 use plc_base::{Names, What1};
 use std::alloc::{AllocError, Global};
 
+// What a name comes to.
+fn push_name(answer: &mut String, names: &mut Names, name: &str) -> Result<(), AllocError> {
+    match names.add(name.as_bytes()) {
+        Ok(number) => write!(answer, "{number} "),
+        Err(fault) => write!(answer, "{fault:?} "),
+    }
+}
+
 // What each name of a text comes to, one after the other.
 fn push_names(answer: &mut String, names: &mut Names, text: &str) -> Result<(), AllocError> {
     for name in text.split(" ") {
-        match names.add(name.as_bytes()) {
-            Ok(number) => write!(answer, "{number} ")?,
-            Err(fault) => write!(answer, "{fault:?} ")?,
-        }
+        push_name(answer, names, name)?;
     }
     Ok(())
 }

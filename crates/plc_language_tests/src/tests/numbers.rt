@@ -3,7 +3,7 @@ use crate::tests::outlines::STACK;
 use crate::tests::tables::{Answers, assert_answer};
 use crate::tests::texts::read;
 use plc_base::Items;
-use plc_lang::{labels_by_op, op_of_label};
+use plc_lang::{File, labels_by_op, op_of_label};
 use plc_logic::{Clause, Item, Outline, Site, op_of_site};
 use plc_parse::Unit;
 use std::alloc::{AllocError, Global};
@@ -14,28 +14,37 @@ fn push_clause(text: &mut String, clause: &Clause) -> Result<(), AllocError> {
     write!(text, " {literals:?}\n")
 }
 
-fn push_item(text: &mut String, item: &Item) -> Result<(), AllocError> {
-    match &item.site {
-        Site::Over(op) => write!(text, "over {op:?}")?,
+fn push_site(text: &mut String, site: &Site) -> Result<(), AllocError> {
+    match site {
+        Site::Over(op) => write!(text, "over {op:?}"),
         Site::At(labels) => {
             let labels = labels.as_slice();
-            write!(text, "at {labels:?}")?
+            write!(text, "at {labels:?}")
         }
     }
-    push_clause(text, &item.clause)
+}
+
+fn push_invariants(text: &mut String, clauses: &[Clause]) -> Result<(), AllocError> {
+    for clause in clauses {
+        text.push_str("inv")?;
+        push_clause(text, clause)?;
+    }
+    Ok(())
+}
+
+fn push_items(text: &mut String, items: &[Item]) -> Result<(), AllocError> {
+    for item in items {
+        push_site(text, &item.site)?;
+        push_clause(text, &item.clause)?;
+    }
+    Ok(())
 }
 
 fn push_outline(text: &mut String, outline: &Outline) -> Result<(), AllocError> {
     let depth = outline.depth;
     write!(text, "depth {depth}\n")?;
-    for clause in outline.invariants.as_slice() {
-        text.push_str("inv")?;
-        push_clause(text, clause)?;
-    }
-    for item in outline.items.as_slice() {
-        push_item(text, item)?;
-    }
-    Ok(())
+    push_invariants(text, outline.invariants.as_slice())?;
+    push_items(text, outline.items.as_slice())
 }
 
 // The operation of each label, and that of each item.
@@ -58,23 +67,33 @@ fn push_labels(alloc: Global, text: &mut String, unit: &Unit) -> Result<(), Allo
     }
 }
 
+fn push_each(text: &mut String, counts: &[usize]) -> Result<(), AllocError> {
+    for count in counts {
+        write!(text, "{count} ")?;
+    }
+    Ok(())
+}
+
 // How many things of each kind a file has.
-fn push_counts(text: &mut String, unit: &Unit) -> Result<(), AllocError> {
-    let names = unit.file.names.len();
-    let fields = unit.file.fields.len();
-    let shared = unit.file.shared.len();
-    let funcs = unit.file.funcs.len();
-    write!(text, "{names} {fields} {shared} {funcs} ")?;
-    let ghosts = unit.file.ghosts.len();
-    let init = unit.file.init.len();
-    let ops = unit.file.ops.len();
-    let labels = unit.file.labels.len();
-    let observer = unit.observer;
-    write!(text, "{ghosts} {init} {ops} {labels} {observer:?}\n")
+fn push_counts(text: &mut String, file: &File) -> Result<(), AllocError> {
+    let names = usize::from(file.names.len());
+    let fields = file.fields.len();
+    let shared = file.shared.len();
+    let funcs = file.funcs.len();
+    let ghosts = file.ghosts.len();
+    let init = file.init.len();
+    let ops = file.ops.len();
+    let labels = file.labels.len();
+    push_each(
+        text,
+        &[names, fields, shared, funcs, ghosts, init, ops, labels],
+    )
 }
 
 fn push_unit(alloc: Global, text: &mut String, unit: &Unit) -> Result<(), AllocError> {
-    push_counts(text, unit)?;
+    let observer = unit.observer;
+    push_counts(text, &unit.file)?;
+    write!(text, "{observer:?}\n")?;
     push_outline(text, &unit.outline)?;
     push_labels(alloc, text, unit)
 }

@@ -7,7 +7,7 @@ ghost use Rattle.plc_outparse.specs.Context.{HasFewLabels};
 
 use crate::tests::tables::{Answers, assert_lines};
 use crate::tests::texts::{ForTokens, Lexed, count_tokens, fate, push_came, push_repeated, read};
-use plc_base::{FieldId, FuncId, Items, What1};
+use plc_base::{FieldId, FuncId, Items, Names, What1};
 use plc_lang::{File, Op};
 use plc_lex::Token;
 use plc_logic::Outline;
@@ -15,6 +15,7 @@ use plc_outparse::read_outline;
 use plc_scope::{Binding, ParseFault, Scope};
 use plc_syntax::Rest;
 use std::alloc::{AllocError, Global};
+use std::mem;
 
 // A stack's declarations and operations, before its outline.
 pub(crate) const STACK: &str = "struct Node { ptr next; data val; }
@@ -274,40 +275,39 @@ fn came_in_scope(
     Ok(text?)
 }
 
-// What the outline at the front comes to behind a file, whose names stand for these.
-fn came_behind(
-    alloc: Global,
-    file: File,
-    bindings: Vec<Binding>,
-    start: Rest,
-) -> Result<String, ParseFault>
-    requires { FileFits file }
+// What the outline at the front comes to behind the two operations, whose names and labels are taken from their file.
+fn came_behind(alloc: Global, file: &mut File, start: Rest) -> Result<String, ParseFault>
+    requires { FileFits file.old }
 {
-    let File {
-        names,
-        ops,
-        labels,
-        ..
-    } = file;
+    let bindings = BINDINGS.to_vec(alloc)?;
     let scope = Scope {
-        names,
+        names: mem::replace(&mut file.names, Names::new(alloc, 0)),
         bindings: Items::from_vec(bindings),
         locals: Items::new(alloc),
-        labels,
+        labels: mem::replace(&mut file.labels, Items::new(alloc)),
     };
-    came_in_scope(alloc, &scope, ops.as_slice(), start)
+    came_in_scope(alloc, &scope, file.ops.as_slice(), start)
+}
+
+// The tokens after the first one.
+fn after_first(all: &[Token]) -> Rest<'_>
+    requires { length all.now < 2 ^ 32 }
+{
+    match all {
+        [_, tokens @ ..] => Rest { tokens, at: 1 },
+        [] => Rest { tokens: all, at: 0 },
+    }
 }
 
 // What the outline after the first token comes to.
 fn came_at_front(alloc: Global, all: &[Token]) -> Result<String, ParseFault>
     requires { length all.now < 2 ^ 32 }
 {
-    let bindings = BINDINGS.to_vec(alloc)?;
-    let unit = read(alloc, TWO_OPERATIONS)?;
-    match all {
-        [_, tokens @ ..] => came_behind(alloc, unit.file, bindings, Rest { tokens, at: 1 }),
-        [] => came_behind(alloc, unit.file, bindings, Rest { tokens: all, at: 0 }),
-    }
+    let start = after_first(all);
+    let mut unit = read(alloc, TWO_OPERATIONS)?;
+    let came = came_behind(alloc, &mut unit.file, start);
+    drop(unit);
+    came
 }
 
 // What the outline comes to, whose place is one more than in the text.

@@ -10,7 +10,7 @@ pub(crate) trait Answers {
 
 // Fails, with the row and both texts, where they differ.
 fn assert_text(rt: &impl Abort, have: &str, want: &str, row: &str) {
-    assert_eq!(rt; have, want, "{row}");
+    assert!(rt; have == want, "{row}: {have} is not {want}");
 }
 
 // One text comes to what is wanted, but for blanks at the end.
