@@ -13,15 +13,15 @@ use Rattle.plc_setting.specs.Setting.{bound_of}
 
 -- variables of which nothing is listed yet
 abbrev pub no_variables : Variables
-no_variables = record { pointers = []; values = []; }
+no_variables = record { pointers = []; values = [] }
 
 -- variables with more of each kind
 abbrev pub with_variables : Variables → Variables → Variables
-with_variables v more = record { pointers = v.pointers ++ more.pointers; values = v.values ++ more.values; }
+with_variables v more = record { pointers = v.pointers ++ more.pointers; values = v.values ++ more.values }
 
 -- a setting of which no nodes are listed, nor what they are found from
 abbrev pub no_nodes : Setting → Setting
-no_nodes s = record s { pointers = []; constants = []; nodes = []; instances = []; fields = []; marks = []; }
+no_nodes s = record s { pointers = []; constants = []; nodes = []; instances = []; fields = []; marks = [] }
 
 -- the setting of an obligation of which nothing is listed yet
 abbrev pub unlisted : Flow → Outline → Obligation → Setting

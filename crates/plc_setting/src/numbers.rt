@@ -116,11 +116,7 @@ fn put_of_items(numbers: &mut BTreeSet<u32>, items: &[Item]) -> Result<(), NoMem
 }
 
 /// Adds the numbers of the file and its outline, 0 among them.
-pub fn put_all(
-    numbers: &mut BTreeSet<u32>,
-    flow: &Flow,
-    outline: &Outline,
-) -> Result<(), NoMemory>
+pub fn put_all(numbers: &mut BTreeSet<u32>, flow: &Flow, outline: &Outline) -> Result<(), NoMemory>
     ensures { OnOk result (numbers.new.keys ≡ with_numbers numbers.old.keys (all_numbers flow.now outline.now)) }
 {
     put(numbers, Some(0))?;

@@ -236,17 +236,17 @@ fn list_acts(
 {
     push_variables(&mut s.mine, acting_locals(flow, o), false)?;
     push_variables(&mut s.theirs, owner_locals(flow, o), true)?;
-    push_acts(&mut s.acts, s.marked, &flow.file, &s.mine, executed(flow, o))
+    push_acts(
+        &mut s.acts,
+        s.marked,
+        &flow.file,
+        &s.mine,
+        executed(flow, o),
+    )
 }
 
 /// A setting of which nothing is listed yet.
-fn unlisted(
-    alloc: Global,
-    marked: bool,
-    flow: &Flow,
-    outline: &Outline,
-    o: &Obligation,
-) -> Setting
+fn unlisted(alloc: Global, marked: bool, flow: &Flow, outline: &Outline, o: &Obligation) -> Setting
     requires fits { Fits flow.now outline.now }
     requires marked { marked ≡ program_uses_marks flow.now outline.now }
     ensures { result ≡ unlisted flow.now outline.now o.now }
