@@ -117,7 +117,8 @@ mutual
       → Gets (λ m. statement_of m at (trees.statement_then s r)) s r
   statement_gets (trees.PrimitiveStatement p) at r h = primitive_statement_gets p at r
   statement_gets (trees.CallStatement k a d) at r h = call_gets k a d (at + 1 + 1) r
-  statement_gets (trees.AtomicStatement ps) at r h = then _ (primitives_get ps (at + 1 + 1) r) (λ p. done)
+  statement_gets (trees.AtomicStatement ps) at r h =
+      then _ (then _ (primitives_get ps (at + 1 + 1) r) (λ p. done)) (λ p. done)
   statement_gets (trees.IfStatement c b e) at r h =
       then _ (condition_gets c (at + 1 + 1) (Symbol OpenBrace ∷ block_then b (trees.else_then e r))) (λ p.
       let other = trees.else_then e r in
@@ -171,15 +172,16 @@ fields_get fs at r none = list_gets trees.field_then forms.begins_field (λ m at
     field_gets (trees.DataField k) at q = done
 
 parameters_get : (ps : List Text) (at : ℕ) (r : Tokens)
-    → Gets (λ m. forms.parameters_of m at (trees.parameters_then ps (Symbol CloseParen ∷ r))) ps (Symbol CloseParen ∷ r)
+    → Gets (λ m. forms.parameters_of m at (trees.parameters_then ps (Symbol CloseParen ∷ r))) ps r
 parameters_get [] at r = done
-parameters_get (k ∷ ks) at r = then _ (names_get ks (at + 1) (Symbol CloseParen ∷ r) refl) (λ p. done)
+parameters_get (k ∷ ks) at r =
+    then _ (then _ (names_get ks (at + 1) (Symbol CloseParen ∷ r) refl) (λ p. done)) (λ p. done)
 
 op_gets : (o : trees.OpTree) (at : ℕ) (r : Tokens) → Gets (λ m. forms.op_of m at (trees.op_then o r)) o r
 op_gets (trees.Operates k ps ls b) at r =
     let body = block_then b r in
     then _ (parameters_get ps (at + 1 + 1 + 1) (Symbol OpenBrace ∷ each_then trees.field_then ls body)) (λ p.
-    then _ (fields_get ls (p + 1 + 1) body (ends b r).no_field) (λ p. then _ (block_gets b p r) (λ p. done)))
+    then _ (fields_get ls (p + 1) body (ends b r).no_field) (λ p. then _ (block_gets b p r) (λ p. done)))
 
 -- ---- clauses of an outline
 
@@ -202,7 +204,8 @@ clause_gets : (c : trees.ClauseTree) (at : ℕ) (r : Tokens)
 clause_gets (trees.Claims b l ls) at r =
     let others = each_then trees.or_literal_then ls (Symbol Semicolon ∷ r) in
     then _ (bound_gets b at (trees.literal_then l others) (bound_of_literal l others)) (λ p.
-    then _ (literal_gets l p others (or_is_no_dot ls r)) (λ p. then _ (or_literals_get ls p r) (λ p. done)))
+    then _ (literal_gets l p others (or_is_no_dot ls r)) (λ p.
+    then _ (then _ (or_literals_get ls p r) (λ p. done)) (λ p. done)))
 
 -- ---- items, and the outline
 
@@ -210,8 +213,9 @@ item_gets : (i : trees.ItemTree) (at : ℕ) (r : Tokens) → Gets (λ m. forms.i
 item_gets (trees.InvariantItem c) at r = then _ (clause_gets c (at + 1) r) (λ p. done)
 item_gets (trees.OverItem k c) at r = then _ (clause_gets c (at + 1 + 1 + 1) r) (λ p. done)
 item_gets (trees.AtItem k ks c) at r =
-    then _ (names_get ks (at + 1 + 1) (Symbol Colon ∷ trees.clause_then c (Symbol Semicolon ∷ r)) refl) (λ p.
-    then _ (clause_gets c (p + 1) r) (λ p. done))
+    let clause = trees.clause_then c (Symbol Semicolon ∷ r) in
+    then _ (then _ (names_get ks (at + 1 + 1) (Symbol Colon ∷ clause) refl) (λ p. done)) (λ p.
+    then _ (clause_gets c p r) (λ p. done))
 
 items_get : (is : List trees.ItemTree) (at : ℕ) (r : Tokens)
     → Gets (λ m. forms.items_of m at (each_then trees.item_then is (Symbol CloseBrace ∷ r))) is (Symbol CloseBrace ∷ r)
@@ -231,14 +235,14 @@ pub outline_gets : (o : trees.OutlineTree) (at : ℕ) (r : Tokens)
     → Gets (λ m. forms.outline_of m at (trees.outline_then o r)) o r
 outline_gets (trees.Outlined d is) at r =
     then _ (depth_gets d (at + 1 + 1) (each_then trees.item_then is (Symbol CloseBrace ∷ r)) (no_depth is r)) (λ p.
-    then _ (items_get is p r) (λ p. done))
+    then _ (then _ (items_get is p r) (λ p. done)) (λ p. done))
 
 -- ---- declarations
 
 ghost_gets : (g : trees.GhostTree) (at : ℕ) (r : Tokens) → Gets (λ m. forms.ghost_of m at (trees.ghost_then g r)) g r
 ghost_gets (trees.Auxiliary k (trees.OneOf v vs)) at r =
-    then _ (then _ (names_get vs (at + 1 + 1 + 1 + 1) (Symbol CloseBrace ∷ Symbol Semicolon ∷ r) refl) (λ p. done))
-    (λ p. done)
+    let end = Symbol CloseBrace ∷ Symbol Semicolon ∷ r in
+    then _ (then _ (then _ (names_get vs (at + 1 + 1 + 1 + 1) end refl) (λ p. done)) (λ p. done)) (λ p. done)
 ghost_gets (trees.Auxiliary k trees.OfThreads) at r = done
 
 init_gets : (i : Option (List trees.InitialTree)) (at : ℕ) (r : Tokens)
@@ -345,7 +349,8 @@ pointers_get ps at r none = list_gets trees.shared_then forms.begins_shared (λ 
 
 struct_gets : (k : Text) (fs : List trees.FieldTree) (at : ℕ) (r : Tokens)
     → Gets (λ m. forms.struct_of m at (trees.struct_then k fs r)) (k, fs) r
-struct_gets k fs at r = then _ (fields_get fs (at + 1 + 1 + 1) (Symbol CloseBrace ∷ r) refl) (λ p. done)
+struct_gets k fs at r =
+    then _ (then _ (fields_get fs (at + 1 + 1 + 1) (Symbol CloseBrace ∷ r) refl) (λ p. done)) (λ p. done)
 
 abbrev heading_alone : trees.FileTree → trees.FileTree
 heading_alone f = record f { ops = []; outlined = None }

@@ -6,11 +6,12 @@ use Rattle.plc_lex.specs.declared.token.TokenKind.TheVariants.{Word, Name, Symbo
 use Rattle.plc_lex.specs.declared.token.Keyword.TheVariants.{Struct, Ghost, Thread, Init, Op, Atomic, If, Else, Loop}
 use Rattle.plc_lex.specs.declared.token.Keyword.TheVariants.{Break, Return, Choose, Or, Label, Null, Outline, Inv, Over}
 use Rattle.plc_lex.specs.declared.token.Keyword.TheVariants.{At}
+use Rattle.plc_lex.specs.declared.token.Symbol.{Symbol as Punctuation}
 use Rattle.plc_lex.specs.declared.token.Symbol.TheVariants.{Equal, OpenBrace, CloseBrace, OpenParen, CloseParen}
 use Rattle.plc_lex.specs.declared.token.Symbol.TheVariants.{Semicolon, Colon}
 use Rattle.plc_syntax.specs.Trees as trees
 use Rattle.plc_syntax.specs.Trees.{Text, each_then, maybe_then}
-use Rattle.plc_syntax.proofs.Combinators.{Tokens, Spells, same, Law, Early, Choice, takes, leaves, last, fault}
+use Rattle.plc_syntax.proofs.Combinators.{Tokens, Spells, Reader, same, Law, Early, Choice, takes, leaves, last, fault}
 use Rattle.plc_syntax.proofs.Combinators.{early_fault, led_law, early_led, then_form, then_whole, within, any_fuel}
 use Rattle.plc_syntax.proofs.Combinators.{then_symbol, then_word, a_name, a_name_fits, name_law, listed, list_law}
 use Rattle.plc_syntax.specs.Forms.{first_is}
@@ -18,6 +19,21 @@ use Rattle.plc_syntax.proofs.FormLaws.{condition_law, named_tail_law, primitive_
 use Rattle.plc_syntax.proofs.FormLaws.{during_law, comma_name_law, field_law, shared_law, function_law, watch_law}
 use Rattle.plc_syntax.proofs.FormLaws.{literal_law, or_literal_law, bound_law, depth_law}
 use Rattle.plc_tree.specs.Forms as forms
+
+-- ---- a form between symbols
+
+closed_law : {X : Type 0} {n : ℕ} {s : Spells X} {f : Reader X} → Law n s same (λ m at ts. f m at ts)
+    → Law n (λ x q. s x (Symbol CloseBrace ∷ q)) same (λ m at ts. forms.closed_of (f m) at ts)
+closed_law law = then_form law (λ x. then_symbol CloseBrace (last (λ q. refl)))
+
+braced_law : {X : Type 0} {n : ℕ} {s : Spells X} {f : Reader X} → Law n s same (λ m at ts. f m at ts)
+    → Law n (λ x q. Symbol OpenBrace ∷ s x q) same (λ m at ts. forms.braced_of (f m) at ts)
+braced_law law = then_symbol OpenBrace (within (λ q. Symbol OpenBrace ∷ q) law)
+
+ended_by_law : {X : Type 0} {n : ℕ} {s : Spells X} {f : Reader X} (k : Punctuation)
+    → Law n s same (λ m at ts. f m at ts)
+    → Law n (λ x q. s x (Symbol k ∷ q)) same (λ m at ts. forms.ended_by k (f m) at ts)
+ended_by_law k law = then_form law (λ x. then_symbol k (last (λ q. refl)))
 
 -- ---- what may be left out
 
@@ -74,7 +90,7 @@ named_statement_law k = led_law (named_statement_choice k)
     (then_whole (named_tail_law k) (λ p. then_symbol Semicolon (last (λ q. refl))))
 
 atomic_law : (n : ℕ) → Law n trees.statement_then (λ q. Word Atomic ∷ q) (λ m at ts. forms.atomic_of m at ts)
-atomic_law n = then_symbol OpenBrace (then_form (primitives_law n) (λ ps. then_symbol CloseBrace (last (λ q. refl))))
+atomic_law n = then_form (braced_law (closed_law (primitives_law n))) (λ ps. last (λ q. refl))
 
 ended_law : {n : ℕ} (s : trees.StatementTree) (pre : Tokens → Tokens)
     → ((q : Tokens) → trees.statement_then s q ≡ pre (Symbol Semicolon ∷ q))
@@ -125,17 +141,17 @@ record Blocks (n : ℕ) : Type 0 where
 
 module _ {n : ℕ} (b : Blocks n) where
   block_law : Law n block_then same (λ m at ts. forms.block_of m at ts)
-  block_law = then_form b.statements (λ s. then_symbol CloseBrace (last (λ q. refl)))
+  block_law = closed_law b.statements
 
-  braced_law : Law n braced_then same (λ m at ts. forms.braced_of (forms.block_of m) at ts)
-  braced_law = then_symbol OpenBrace (within (λ q. Symbol OpenBrace ∷ q) block_law)
+  braced_block_law : Law n braced_then same (λ m at ts. forms.braced_of (forms.block_of m) at ts)
+  braced_block_law = braced_law block_law
 
   loop_law : Law n trees.statement_then (λ q. Word Loop ∷ q) (λ m at ts. forms.loop_of (forms.block_of m) at ts)
   unfolding forms.loop_of
-  loop_law = then_form braced_law (λ b. last (λ q. refl))
+  loop_law = then_form braced_block_law (λ b. last (λ q. refl))
 
   else_choice : (t : TokenKind) → Choice n trees.else_then same (λ m. forms.else_next (forms.block_of m)) t
-  else_choice (Word Else) = takes _ (λ m. refl) (then_form braced_law (λ b. last (λ q. refl)))
+  else_choice (Word Else) = takes _ (λ m. refl) (then_form braced_block_law (λ b. last (λ q. refl)))
   else_choice _ = leaves (λ m. refl)
 
   else_law : Law n trees.else_then same (λ m at ts. forms.else_of (forms.block_of m) at ts)
@@ -144,13 +160,13 @@ module _ {n : ℕ} (b : Blocks n) where
 
   if_law : Law n trees.statement_then (λ q. Word If ∷ q) (λ m at ts. forms.if_of (forms.block_of m) at ts)
   unfolding forms.if_of
-  if_law = then_symbol OpenParen (then_form condition_law (λ c. then_symbol CloseParen (then_form braced_law (λ b.
-      then_form else_law (λ e. last (λ q. refl))))))
+  if_law = then_symbol OpenParen (then_form condition_law (λ c. then_symbol CloseParen (then_form braced_block_law
+      (λ b. then_form else_law (λ e. last (λ q. refl))))))
 
   choose_law : Law n trees.statement_then (λ q. Word Choose ∷ q)
       (λ m at ts. forms.choose_of (forms.block_of m) (forms.ors_of m) at ts)
   unfolding forms.choose_of
-  choose_law = then_form braced_law (λ a. then_word Or (then_form braced_law (λ c.
+  choose_law = then_form braced_block_law (λ a. then_word Or (then_form braced_block_law (λ c.
       then_form b.ors (λ os. last (λ q. refl)))))
 
   statement_choice : (t : TokenKind) → Choice n trees.statement_then same
@@ -173,7 +189,7 @@ module _ {n : ℕ} (b : Blocks n) where
   statement_law = early_led statement_choice (any_fuel step_law n)
 
   or_block_choice : (t : TokenKind) → Choice n or_block_then same (λ m. forms.or_block_next (forms.block_of m)) t
-  or_block_choice (Word Or) = takes _ (λ m. refl) (within (λ q. Word Or ∷ q) braced_law)
+  or_block_choice (Word Or) = takes _ (λ m. refl) (within (λ q. Word Or ∷ q) braced_block_law)
   or_block_choice _ = leaves (λ m. refl)
 
   or_block_law : Early n or_block_then same (λ m at ts. forms.or_block_of (forms.block_of m) at ts)
@@ -227,7 +243,7 @@ functions_law : (n : ℕ) → Law n (λ fs q. each_then trees.function_then fs q
 functions_law = list_law forms.begins_function function_begun (any_fuel function_law)
 
 values_law : (n : ℕ) → Law n trees.ghost_kind_then (λ q. Symbol OpenBrace ∷ q) (λ m at ts. forms.values_of m at ts)
-values_law n = then_form name_law (λ v. then_form (comma_names_law n) (λ vs. then_symbol CloseBrace (last (λ q. refl))))
+values_law n = then_form name_law (λ v. then_form (closed_law (comma_names_law n)) (λ vs. last (λ q. refl)))
 
 ghost_kind_choice : {n : ℕ} (t : TokenKind) → Choice n trees.ghost_kind_then same (λ m. forms.ghost_kind_next m) t
 ghost_kind_choice (Symbol OpenBrace) = takes _ (λ m. refl) (values_law _)
@@ -256,11 +272,9 @@ ghost_begun (trees.Auxiliary k x) q = refl
 ghosts_law : (n : ℕ) → Law n (λ gs q. each_then trees.ghost_then gs q) same (λ m at ts. forms.ghosts_of m at ts)
 ghosts_law = list_law forms.begins_ghost ghost_begun ghost_law
 
-init_tail_law : (n : ℕ) → Law n trees.init_then (λ q. Word Init ∷ q) (λ m at ts. forms.init_tail_of m at ts)
-init_tail_law n = then_symbol OpenBrace (then_form (initials_law n) (λ is. then_symbol CloseBrace (last (λ q. refl))))
-
 init_choice : {n : ℕ} (t : TokenKind) → Choice n starts_then same (λ m. forms.init_next m) t
-init_choice (Word Init) = takes _ (λ m. refl) (then_whole (init_tail_law _) (λ is. last (λ q. refl)))
+init_choice (Word Init) =
+    takes _ (λ m. refl) (then_form (braced_law (closed_law (initials_law _))) (λ is. last (λ q. refl)))
 init_choice _ = leaves (λ m. refl)
 
 init_law : {n : ℕ} → Law n starts_then same (λ m at ts. forms.init_of m at ts)
@@ -268,17 +282,21 @@ init_law = led_law init_choice (last (λ q. refl))
 
 -- ---- operations
 
-parameters_choice : {n : ℕ} (t : TokenKind) → Choice n trees.parameters_then same (λ m. forms.parameters_next m) t
-parameters_choice (Name k) = takes _ (λ m. refl) (then_form (comma_names_law _) (λ ks. last (λ q. refl)))
+abbrev parameters_end : Spells (List Text)
+parameters_end ps q = trees.parameters_then ps (Symbol CloseParen ∷ q)
+
+parameters_choice : {n : ℕ} (t : TokenKind) → Choice n parameters_end same (λ m. forms.parameters_next m) t
+parameters_choice (Name k) =
+    takes _ (λ m. refl) (then_form (ended_by_law CloseParen (comma_names_law _)) (λ ks. last (λ q. refl)))
 parameters_choice _ = leaves (λ m. refl)
 
-parameters_law : {n : ℕ} → Law n trees.parameters_then same (λ m at ts. forms.parameters_of m at ts)
-parameters_law = led_law parameters_choice (last (λ q. refl))
+parameters_law : {n : ℕ} → Law n parameters_end same (λ m at ts. forms.parameters_of m at ts)
+parameters_law = led_law parameters_choice (then_symbol CloseParen (last (λ q. refl)))
 
 op_tail_law : (n : ℕ) → Law n trees.op_then (λ q. Word Op ∷ q) (λ m at ts. forms.op_tail_of m at ts)
-op_tail_law n = then_form name_law (λ k. then_symbol OpenParen (then_form parameters_law (λ ps. then_symbol CloseParen
-    (then_symbol OpenBrace (then_form (fields_law n) (λ ls. then_form (block_law (blocks n)) (λ b.
-    last (λ q. refl))))))))
+op_tail_law n = then_form name_law (λ k. then_symbol OpenParen (then_form parameters_law (λ ps.
+    then_symbol OpenBrace (then_form (fields_law n) (λ ls. then_form (block_law (blocks n)) (λ b.
+    last (λ q. refl)))))))
 
 op_choice : {n : ℕ} (t : TokenKind) → Choice n trees.op_then same (λ m. forms.op_next m) t
 op_choice (Word Op) = takes _ (λ m. refl) (op_tail_law _)
@@ -306,8 +324,8 @@ abbrev clause_line_then : Spells trees.ClauseTree
 clause_line_then c q = trees.clause_then c (Symbol Semicolon ∷ q)
 
 clause_law : (n : ℕ) → Law n clause_line_then same (λ m at ts. forms.clause_of m at ts)
-clause_law n = then_form bound_law (λ b. then_form literal_law (λ l. then_form (or_literals_law n) (λ ls.
-    then_symbol Semicolon (last (λ q. refl)))))
+clause_law n = then_form bound_law (λ b. then_form literal_law (λ l.
+    then_form (ended_by_law Semicolon (or_literals_law n)) (λ ls. last (λ q. refl))))
 
 -- ---- items, and the outline
 
@@ -315,8 +333,8 @@ over_law : (n : ℕ) → Law n trees.item_then (λ q. Word Over ∷ q) (λ m at 
 over_law n = then_form name_law (λ k. then_symbol Colon (then_form (clause_law n) (λ c. last (λ q. refl))))
 
 at_law : (n : ℕ) → Law n trees.item_then (λ q. Word At ∷ q) (λ m at ts. forms.at_of m at ts)
-at_law n = then_form name_law (λ k. then_form (comma_names_law n) (λ ks. then_symbol Colon
-    (then_form (clause_law n) (λ c. last (λ q. refl)))))
+at_law n = then_form name_law (λ k. then_form (ended_by_law Colon (comma_names_law n)) (λ ks.
+    then_form (clause_law n) (λ c. last (λ q. refl))))
 
 item_choice : {n : ℕ} (t : TokenKind) → Choice n trees.item_then same (λ m. forms.item_next m) t
 item_choice (Word Inv) = takes _ (λ m. refl) (then_form (clause_law _) (λ c. last (λ q. refl)))
@@ -342,8 +360,8 @@ items_law : (n : ℕ) → Law n (λ is q. each_then trees.item_then is q) same (
 items_law = list_law forms.begins_item item_begun item_law
 
 outline_tail_law : (n : ℕ) → Law n trees.outline_then (λ q. Word Outline ∷ q) (λ m at ts. forms.outline_tail_of m at ts)
-outline_tail_law n = then_symbol OpenBrace (then_form depth_law (λ d. then_form (items_law n) (λ is.
-    then_symbol CloseBrace (last (λ q. refl)))))
+outline_tail_law n = then_symbol OpenBrace (then_form depth_law (λ d. then_form (closed_law (items_law n)) (λ is.
+    last (λ q. refl))))
 
 pub outline_law : (n : ℕ) → Law n trees.outline_then same (λ m at ts. forms.outline_of m at ts)
 outline_law n = then_word Outline (outline_tail_law n)
@@ -361,8 +379,8 @@ abbrev struct_then : Spells (Text × List trees.FieldTree)
 struct_then s q = trees.struct_then s.0 s.1 q
 
 struct_law : (n : ℕ) → Law n struct_then same (λ m at ts. forms.struct_of m at ts)
-struct_law n = then_word Struct (then_form name_law (λ k. then_symbol OpenBrace (then_form (fields_law n) (λ fs.
-    then_symbol CloseBrace (last (λ q. refl))))))
+struct_law n = then_word Struct (then_form name_law (λ k. then_form (braced_law (closed_law (fields_law n))) (λ fs.
+    last (λ q. refl))))
 
 -- what stands before the operations
 abbrev pub heading_then : Spells trees.FileTree

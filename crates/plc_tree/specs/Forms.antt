@@ -8,6 +8,7 @@ use Rattle.plc_lex.specs.declared.token.Keyword.{Keyword}
 use Rattle.plc_lex.specs.declared.token.Keyword.TheVariants.{Struct, Ptr, Data, Shared, Call, Ghost, Thread, Init, Op}
 use Rattle.plc_lex.specs.declared.token.Keyword.TheVariants.{Atomic, If, Else, Loop, Break, Return, Skip, Choose, Or}
 use Rattle.plc_lex.specs.declared.token.Keyword.TheVariants.{Label, Active, Assume, Outline, Inv, Over, At}
+use Rattle.plc_lex.specs.declared.token.Symbol.{Symbol as Punctuation}
 use Rattle.plc_lex.specs.declared.token.Symbol.TheVariants.{OpenBrace, CloseBrace, OpenParen, CloseParen, Semicolon}
 use Rattle.plc_lex.specs.declared.token.Symbol.TheVariants.{Comma, Colon}
 use Rattle.plc_syntax.specs.Trees.{Text, FieldTree, FunctionTree, GhostKindTree, OneOf, OfThreads, GhostTree, Auxiliary}
@@ -20,6 +21,23 @@ use Rattle.plc_syntax.specs.Forms.{Read, ◌>>=◌, ◌>>◌, Next, led, alone, 
 use Rattle.plc_syntax.specs.Forms.{comma_name_of, condition_of, named_tail_of, primitive_line_of, initial_of}
 use Rattle.plc_syntax.specs.Forms.{argument_of, during_of, field_of, shared_of, function_of, watch_of, literal_of}
 use Rattle.plc_syntax.specs.Forms.{or_literal_of, bound_of, depth_of}
+
+-- ---- a form between symbols
+
+abbrev pub Reader : Type 0 → Type 0
+Reader A = ℕ → List TokenKind → Read A
+
+-- a form and the symbol that ends it
+abbrev pub ended_by : {A : Type 0} → Punctuation → Reader A → Reader A
+ended_by end form at ts = form at ts >>= λ x at ts. symbol_of end at ts >> λ at ts. Ok (x, at, ts)
+
+-- a form and the closing brace
+abbrev pub closed_of : {A : Type 0} → Reader A → Reader A
+closed_of form at ts = ended_by CloseBrace form at ts
+
+-- the opening brace and what stands after it
+abbrev pub braced_of : {A : Type 0} → Reader A → Reader A
+braced_of form at ts = symbol_of OpenBrace at ts >> λ at ts. form at ts
 
 -- ---- names after a comma
 
@@ -72,8 +90,7 @@ named_statement_of n at ts = led (named_statement_next n) (named_tail_of n at ts
 
 -- an atomic block, from after its word; at most so many primitives
 abbrev pub atomic_of : ℕ → ℕ → List TokenKind → Read StatementTree
-atomic_of m at ts = symbol_of OpenBrace at ts >> λ at ts. primitives_of m at ts >>= λ ps at ts.
-    symbol_of CloseBrace at ts >> λ at ts. Ok (AtomicStatement ps, at, ts)
+atomic_of m at ts = braced_of (closed_of (primitives_of m)) at ts >>= λ ps at ts. Ok (AtomicStatement ps, at, ts)
 
 -- a statement and its semicolon, from after its word
 abbrev pub ended_of : StatementTree → ℕ → List TokenKind → Read StatementTree
@@ -89,14 +106,10 @@ step_of at ts = primitive_line_of at ts >>= λ p at ts. Ok (PrimitiveStatement p
 -- ---- blocks; `block` reads what stands after an opening brace, `ors` the blocks of a choice after its second
 
 abbrev pub BlockReader : Type 0
-BlockReader = ℕ → List TokenKind → Read BlockTree
+BlockReader = Reader BlockTree
 
 abbrev pub OrsReader : Type 0
-OrsReader = ℕ → List TokenKind → Read OrTree
-
--- a block with its opening brace
-abbrev pub braced_of : BlockReader → BlockReader
-braced_of block at ts = symbol_of OpenBrace at ts >> λ at ts. block at ts
+OrsReader = Reader OrTree
 
 -- a loop, from after its word
 unfoldable pub loop_of : BlockReader → ℕ → List TokenKind → Read StatementTree
@@ -163,10 +176,6 @@ or_block_next block _ = None
 abbrev pub or_block_of : BlockReader → BlockReader
 or_block_of block at ts = led (or_block_next block) (Err at) at ts
 
--- what stands after an opening brace: statements and the closing one
-abbrev pub closed_of : BlockReader → BlockReader
-closed_of statements at ts = statements at ts >>= λ b at ts. symbol_of CloseBrace at ts >> λ at ts. Ok (b, at, ts)
-
 abbrev mutual
   -- statements; at most so many after and within one another
   pub statements_of : ℕ → BlockReader
@@ -212,8 +221,8 @@ functions_of m at ts = list_of begins_function (λ m at ts. function_of at ts) m
 
 -- the values of an auxiliary field, from after the opening brace
 abbrev pub values_of : ℕ → ℕ → List TokenKind → Read GhostKindTree
-values_of m at ts = name_of at ts >>= λ v at ts. comma_names_of m at ts >>= λ vs at ts.
-    symbol_of CloseBrace at ts >> λ at ts. Ok (OneOf v vs, at, ts)
+values_of m at ts = name_of at ts >>= λ v at ts. closed_of (comma_names_of m) at ts >>= λ vs at ts.
+    Ok (OneOf v vs, at, ts)
 
 abbrev pub ghost_kind_next : ℕ → Next GhostKindTree
 ghost_kind_next m (Symbol OpenBrace) = Some (λ at ts. values_of m at ts)
@@ -242,13 +251,9 @@ ghost_of m at ts = led (ghost_next m) (Err at) at ts
 abbrev pub ghosts_of : ℕ → ℕ → List TokenKind → Read (List GhostTree)
 ghosts_of m at ts = list_of begins_ghost (λ m at ts. ghost_of m at ts) m at ts
 
--- the init block, from after its word
-abbrev pub init_tail_of : ℕ → ℕ → List TokenKind → Read (List InitialTree)
-init_tail_of m at ts = symbol_of OpenBrace at ts >> λ at ts. initials_of m at ts >>= λ sets at ts.
-    symbol_of CloseBrace at ts >> λ at ts. Ok (sets, at, ts)
-
 abbrev pub init_next : ℕ → Next (Option (List InitialTree))
-init_next m (Word Init) = Some (λ at ts. init_tail_of m at ts >>= λ sets at ts. Ok (Some sets, at, ts))
+init_next m (Word Init) =
+    Some (λ at ts. braced_of (closed_of (initials_of m)) at ts >>= λ sets at ts. Ok (Some sets, at, ts))
 init_next m _ = None
 
 -- the init block, which may be left out
@@ -258,19 +263,20 @@ init_of m at ts = led (init_next m) (Ok (None, at, ts)) at ts
 -- ---- operations
 
 abbrev pub parameters_next : ℕ → Next (List Text)
-parameters_next m (Name n) = Some (λ at ts. comma_names_of m at ts >>= λ ns at ts. Ok (n ∷ ns, at, ts))
+parameters_next m (Name n) =
+    Some (λ at ts. ended_by CloseParen (comma_names_of m) at ts >>= λ ns at ts. Ok (n ∷ ns, at, ts))
 parameters_next m _ = None
 
--- parameters, of which there may be none
+-- parameters, of which there may be none, and the closing parenthesis
 abbrev pub parameters_of : ℕ → ℕ → List TokenKind → Read (List Text)
-parameters_of m at ts = led (parameters_next m) (Ok ([], at, ts)) at ts
+parameters_of m at ts = led (parameters_next m) (symbol_of CloseParen at ts >> λ at ts. Ok ([], at, ts)) at ts
 
 -- an operation, from after its word
 abbrev pub op_tail_of : ℕ → ℕ → List TokenKind → Read OpTree
 op_tail_of m at ts = name_of at ts >>= λ n at ts.
     symbol_of OpenParen at ts >> λ at ts. parameters_of m at ts >>= λ ps at ts.
-    symbol_of CloseParen at ts >> λ at ts. symbol_of OpenBrace at ts >> λ at ts.
-    fields_of m at ts >>= λ ls at ts. block_of m at ts >>= λ b at ts. Ok (Operates n ps ls b, at, ts)
+    symbol_of OpenBrace at ts >> λ at ts. fields_of m at ts >>= λ ls at ts.
+    block_of m at ts >>= λ b at ts. Ok (Operates n ps ls b, at, ts)
 
 abbrev pub op_next : ℕ → Next OpTree
 op_next m (Word Op) = Some (λ at ts. op_tail_of m at ts)
@@ -294,7 +300,7 @@ or_literals_of m at ts = list_of begins_or (λ m at ts. or_literal_of at ts) m a
 -- a clause and its semicolon
 abbrev pub clause_of : ℕ → ℕ → List TokenKind → Read ClauseTree
 clause_of m at ts = bound_of at ts >>= λ b at ts. literal_of at ts >>= λ l at ts.
-    or_literals_of m at ts >>= λ ls at ts. symbol_of Semicolon at ts >> λ at ts. Ok (Claims b l ls, at, ts)
+    ended_by Semicolon (or_literals_of m) at ts >>= λ ls at ts. Ok (Claims b l ls, at, ts)
 
 -- ---- items, and the outline
 
@@ -305,8 +311,8 @@ over_of m at ts = name_of at ts >>= λ n at ts. symbol_of Colon at ts >> λ at t
 
 -- an item at labels, from after its word
 abbrev pub at_of : ℕ → ℕ → List TokenKind → Read ItemTree
-at_of m at ts = name_of at ts >>= λ n at ts. comma_names_of m at ts >>= λ ns at ts.
-    symbol_of Colon at ts >> λ at ts. clause_of m at ts >>= λ c at ts. Ok (AtItem n ns c, at, ts)
+at_of m at ts = name_of at ts >>= λ n at ts. ended_by Colon (comma_names_of m) at ts >>= λ ns at ts.
+    clause_of m at ts >>= λ c at ts. Ok (AtItem n ns c, at, ts)
 
 abbrev pub item_next : ℕ → Next ItemTree
 item_next m (Word Inv) = Some (λ at ts. clause_of m at ts >>= λ c at ts. Ok (InvariantItem c, at, ts))
@@ -329,7 +335,7 @@ items_of m at ts = list_of begins_item (λ m at ts. item_of m at ts) m at ts
 -- an outline, from after its word
 abbrev pub outline_tail_of : ℕ → ℕ → List TokenKind → Read OutlineTree
 outline_tail_of m at ts = symbol_of OpenBrace at ts >> λ at ts. depth_of at ts >>= λ d at ts.
-    items_of m at ts >>= λ is at ts. symbol_of CloseBrace at ts >> λ at ts. Ok (Outlined d is, at, ts)
+    closed_of (items_of m) at ts >>= λ is at ts. Ok (Outlined d is, at, ts)
 
 abbrev pub outline_of : ℕ → ℕ → List TokenKind → Read OutlineTree
 outline_of m at ts = word_of Outline at ts >> λ at ts. outline_tail_of m at ts
@@ -347,8 +353,7 @@ outlined_of m at ts = led (outlined_next m) (Ok (None, at, ts)) at ts
 -- "struct", the struct's name and its fields
 abbrev pub struct_of : ℕ → ℕ → List TokenKind → Read (Text × List FieldTree)
 struct_of m at ts = word_of Struct at ts >> λ at ts. name_of at ts >>= λ n at ts.
-    symbol_of OpenBrace at ts >> λ at ts. fields_of m at ts >>= λ fs at ts.
-    symbol_of CloseBrace at ts >> λ at ts. Ok ((n, fs), at, ts)
+    braced_of (closed_of (fields_of m)) at ts >>= λ fs at ts. Ok ((n, fs), at, ts)
 
 -- what stands before the operations, with none and no outline
 abbrev pub heading_of : ℕ → ℕ → List TokenKind → Read FileTree

@@ -1,13 +1,11 @@
 // Auxiliary fields, and the init block.
-ghost use Rattle.std.specs.Prelude.{map};
 ghost use Rattle.plc_syntax.specs.Syntax.{kinds};
-ghost use Rattle.plc_syntax.specs.Views.{initial_tree};
 ghost use Rattle.plc_syntax.specs.Answers.{Gives};
-ghost use Rattle.plc_tree.specs.Forms.{values_of, ghost_kind_of, ghost_tail_of, ghost_of, init_tail_of, init_of};
+ghost use Rattle.plc_tree.specs.Forms.{values_of, ghost_kind_of, ghost_tail_of, ghost_of, init_of};
 ghost use Rattle.plc_tree.specs.FormViews.{kind_tree, auxiliary_tree, starts_tree};
 
 use crate::form::{Auxiliary, AuxiliaryKind};
-use crate::list::list_at;
+use crate::list::{braced_list_at, ended_list_at};
 use plc_base::Items;
 use plc_lex::{Keyword, Symbol, TokenKind};
 use plc_syntax::{Initial, Read, Rest, first, name_at, stuck, symbol_at, within};
@@ -18,7 +16,10 @@ fn values_at<'a>(alloc: Global, most: usize, rest: Rest<'a>) -> Read<'a, Auxilia
     ensures { Gives kind_tree result (values_of most rest.entry.at (kinds rest.entry.tokens.now)) }
 {
     let (first, after) = name_at(rest)?;
-    within!(AuxiliaryKind::OneOf(first, others); others = list_at(alloc, most, after), CloseBrace)
+    within!(
+        AuxiliaryKind::OneOf(first, others);
+        others = ended_list_at(alloc, most, after, Symbol::CloseBrace)
+    )
 }
 
 /// What an auxiliary field holds.
@@ -50,15 +51,6 @@ pub fn ghost_at<'a>(alloc: Global, most: usize, rest: Rest<'a>) -> Read<'a, Auxi
     }
 }
 
-/// The init block, from after its word.
-fn init_tail_at<'a>(alloc: Global, most: usize, rest: Rest<'a>) -> Read<'a, Items<Initial<'a>>>
-    ensures { Gives (λ is. map initial_tree is) result
-        (init_tail_of most rest.entry.at (kinds rest.entry.tokens.now)) }
-{
-    let after = symbol_at(rest, Symbol::OpenBrace)?;
-    within!(sets; sets = list_at(alloc, most, after), CloseBrace)
-}
-
 /// The init block, which may be left out.
 pub fn init_at<'a>(
     alloc: Global,
@@ -69,7 +61,7 @@ pub fn init_at<'a>(
 {
     match first(rest) {
         Some((TokenKind::Word(Keyword::Init), after)) =>
-            within!(Some(sets); sets = init_tail_at(alloc, most, after)),
+            within!(Some(sets); sets = braced_list_at(alloc, most, after)),
         _ => Ok((None, rest)),
     }
 }

@@ -14,7 +14,7 @@ ghost use Rattle.plc_tree.specs.Views.{statement_tree, else_tree, ors_tree};
 use crate::statement::{atomic_at, ended_at, label_at, named_statement_at, primitive_statement_at};
 use crate::tree::{Block, Stmt};
 use plc_lex::{Keyword, Symbol, TokenKind};
-use plc_syntax::{Read, Rest, condition_at, first, stuck, symbol_at, within, word_at};
+use plc_syntax::{Read, Rest, condition_at, first, stuck, symbol_at, within};
 use std::alloc::Global;
 
 /// Whether a statement begins with a word.
@@ -151,8 +151,7 @@ fn choose_at<'a>(alloc: Global, most: usize, rest: Rest<'a>) -> Read<'a, Stmt<'a
         (choose_of (block_of most) (ors_of most) rest.entry.at (kinds rest.entry.tokens.now)) }
 {
     let (first, after) = braced_at(alloc, most, rest)?;
-    let after = word_at(after, Keyword::Or)?;
-    let (second, after) = braced_at(alloc, most, after)?;
+    let (second, after) = or_block_at(alloc, most, after)?;
     within!(Stmt::Choose { first, second, others }; others = ors_at(alloc, most, after))
 }
 

@@ -5,7 +5,8 @@ ghost use Rattle.plc_tree.specs.Forms.{clause_of};
 ghost use Rattle.plc_tree.specs.FormViews.{clause_tree};
 
 use crate::form::Clause;
-use crate::list::list_at;
+use crate::list::ended_list_at;
+use plc_lex::Symbol;
 use plc_syntax::{Read, Rest, bound_at, literal_at, within};
 use std::alloc::Global;
 
@@ -15,5 +16,8 @@ pub fn clause_at<'a>(alloc: Global, most: usize, rest: Rest<'a>) -> Read<'a, Cla
 {
     let (bound, after) = bound_at(rest)?;
     let (first, after) = literal_at(after)?;
-    within!(Clause { bound, first, others }; others = list_at(alloc, most, after), Semicolon)
+    within!(
+        Clause { bound, first, others };
+        others = ended_list_at(alloc, most, after, Symbol::Semicolon)
+    )
 }

@@ -15,15 +15,15 @@ ghost use Rattle.plc_tree.specs.Whole.{IsExactly, IsReadWhere};
 use crate::auxiliary::init_at;
 use crate::fault::SyntaxFault;
 use crate::form::{Auxiliary, Outline};
-use crate::list::list_at;
+use crate::list::{braced_list_at, list_at};
 use crate::nesting::first_too_deep;
 use crate::operation::Operation;
 use crate::outline::outlined_at;
 use plc_base::Items;
-use plc_lex::{Keyword, Symbol, Token};
+use plc_lex::{Keyword, Token};
 use plc_syntax::{
-    Declaration, Fault, Function, Initial, Read, Rest, Shared, Watch, name_at, stuck, symbol_at,
-    watch_at, within, word_at,
+    Declaration, Fault, Function, Initial, Read, Rest, Shared, Watch, name_at, stuck, watch_at,
+    within, word_at,
 };
 use std::alloc::Global;
 
@@ -70,8 +70,7 @@ fn struct_at<'a>(alloc: Global, most: usize, rest: Rest<'a>) -> Read<'a, Struct<
 {
     let after = word_at(rest, Keyword::Struct)?;
     let (name, after) = name_at(after)?;
-    let after = symbol_at(after, Symbol::OpenBrace)?;
-    within!(Struct { name, fields }; fields = list_at(alloc, most, after), CloseBrace)
+    within!(Struct { name, fields }; fields = braced_list_at(alloc, most, after))
 }
 
 /// What stands before the operations.

@@ -5,10 +5,11 @@ ghost use Rattle.std.specs.Prelude.{◌≡◌, map};
 ghost use Rattle.plc_syntax.specs.Syntax.{kinds};
 ghost use Rattle.plc_syntax.specs.Forms.{first_is, list_of};
 ghost use Rattle.plc_syntax.specs.Answers.{Gives};
+ghost use Rattle.plc_tree.specs.Forms.{ended_by, closed_of, braced_of};
 
 use plc_base::Items;
-use plc_lex::TokenKind;
-use plc_syntax::{Read, Rest, first, stuck};
+use plc_lex::{Symbol, TokenKind};
+use plc_syntax::{Read, Rest, first, stuck, symbol_at};
 use std::alloc::Global;
 
 /// What a list is made of.
@@ -64,4 +65,33 @@ pub fn list_at<'a, T: Listed<'a>>(alloc: Global, most: usize, start: Rest<'a>) -
         rest = after;
     }
     Err(stuck(rest))
+}
+
+/// The items of a list and the symbol that ends it; at most so many items.
+pub fn ended_list_at<'a, T: Listed<'a>>(
+    alloc: Global,
+    most: usize,
+    rest: Rest<'a>,
+    end: Symbol,
+) -> Read<'a, Items<T>>
+    ensures { Gives (λ xs. map T.tree xs) result
+        (ended_by end (list_of T.starts T.of most) rest.entry.at (kinds rest.entry.tokens.now)) }
+{
+    let (items, after) = list_at(alloc, most, rest)?;
+    match symbol_at(after, end) {
+        Ok(after) => Ok((items, after)),
+        Err(fault) => Err(fault),
+    }
+}
+
+/// The items of a list within braces; at most so many.
+pub fn braced_list_at<'a, T: Listed<'a>>(
+    alloc: Global,
+    most: usize,
+    rest: Rest<'a>,
+) -> Read<'a, Items<T>>
+    ensures { Gives (λ xs. map T.tree xs) result
+        (braced_of (closed_of (list_of T.starts T.of most)) rest.entry.at (kinds rest.entry.tokens.now)) }
+{
+    ended_list_at(alloc, most, symbol_at(rest, Symbol::OpenBrace)?, Symbol::CloseBrace)
 }

@@ -5,7 +5,7 @@ ghost use Rattle.plc_tree.specs.Forms.{parameters_of, op_tail_of, op_of};
 ghost use Rattle.plc_tree.specs.FileViews.{parameters_names, operation_tree};
 
 use crate::block::block_at;
-use crate::list::list_at;
+use crate::list::{ended_list_at, list_at};
 use crate::tree::Block;
 use plc_base::Items;
 use plc_lex::{Keyword, Symbol, TokenKind};
@@ -34,16 +34,16 @@ pub struct Operation<'a> {
     pub body: Block<'a>,
 }
 
-/// The parameters of an operation.
+/// The parameters of an operation, and the closing parenthesis.
 fn parameters_at<'a>(alloc: Global, most: usize, rest: Rest<'a>) -> Read<'a, Parameters<'a>>
     ensures { Gives parameters_names result (parameters_of most rest.entry.at (kinds rest.entry.tokens.now)) }
 {
     match first(rest) {
         Some((TokenKind::Name(name), after)) => {
-            let (others, after) = list_at(alloc, most, after)?;
+            let (others, after) = ended_list_at(alloc, most, after, Symbol::CloseParen)?;
             Ok((Parameters::Some(name.as_slice(), others), after))
         }
-        _ => Ok((Parameters::None, rest)),
+        _ => Ok((Parameters::None, symbol_at(rest, Symbol::CloseParen)?)),
     }
 }
 
@@ -54,7 +54,6 @@ fn op_tail_at<'a>(alloc: Global, most: usize, rest: Rest<'a>) -> Read<'a, Operat
     let (name, after) = name_at(rest)?;
     let after = symbol_at(after, Symbol::OpenParen)?;
     let (parameters, after) = parameters_at(alloc, most, after)?;
-    let after = symbol_at(after, Symbol::CloseParen)?;
     let after = symbol_at(after, Symbol::OpenBrace)?;
     let (locals, after) = list_at(alloc, most, after)?;
     within!(Operation { name, parameters, locals, body }; body = block_at(alloc, most, after))

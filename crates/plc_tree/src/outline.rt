@@ -9,7 +9,7 @@ ghost use Rattle.plc_tree.specs.Whole.{OutlineStops};
 
 use crate::clause::clause_at;
 use crate::form::{Item, Outline};
-use crate::list::list_at;
+use crate::list::ended_list_at;
 use plc_lex::{Keyword, Symbol, Token, TokenKind};
 use plc_syntax::{Fault, Read, Rest, depth_at, first, name_at, stuck, symbol_at, within, word_at};
 use std::alloc::Global;
@@ -28,8 +28,7 @@ fn at_item_at<'a>(alloc: Global, most: usize, rest: Rest<'a>) -> Read<'a, Item<'
     ensures { Gives item_tree result (at_of most rest.entry.at (kinds rest.entry.tokens.now)) }
 {
     let (name, after) = name_at(rest)?;
-    let (others, after) = list_at(alloc, most, after)?;
-    let after = symbol_at(after, Symbol::Colon)?;
+    let (others, after) = ended_list_at(alloc, most, after, Symbol::Colon)?;
     within!(Item::At(name, others, clause); clause = clause_at(alloc, most, after))
 }
 
@@ -52,7 +51,10 @@ fn outline_tail_at<'a>(alloc: Global, most: usize, rest: Rest<'a>) -> Read<'a, O
 {
     let after = symbol_at(rest, Symbol::OpenBrace)?;
     let (depth, after) = depth_at(after)?;
-    within!(Outline { depth, items }; items = list_at(alloc, most, after), CloseBrace)
+    within!(
+        Outline { depth, items };
+        items = ended_list_at(alloc, most, after, Symbol::CloseBrace)
+    )
 }
 
 /// An outline.

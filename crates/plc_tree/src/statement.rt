@@ -4,7 +4,7 @@ ghost use Rattle.plc_syntax.specs.Answers.{Gives};
 ghost use Rattle.plc_tree.specs.Forms.{call_of, named_statement_of, atomic_of, ended_of, label_of, step_of};
 ghost use Rattle.plc_tree.specs.Views.{statement_tree};
 
-use crate::list::list_at;
+use crate::list::braced_list_at;
 use crate::tree::Stmt;
 use plc_lex::{Symbol, TokenKind};
 use plc_syntax::{
@@ -37,8 +37,7 @@ pub fn named_statement_at<'a>(name: &'a [u8], rest: Rest<'a>) -> Read<'a, Stmt<'
 pub fn atomic_at<'a>(alloc: Global, most: usize, rest: Rest<'a>) -> Read<'a, Stmt<'a>>
     ensures { Gives statement_tree result (atomic_of most rest.entry.at (kinds rest.entry.tokens.now)) }
 {
-    let after = symbol_at(rest, Symbol::OpenBrace)?;
-    within!(Stmt::Atomic(primitives); primitives = list_at(alloc, most, after), CloseBrace)
+    within!(Stmt::Atomic(primitives); primitives = braced_list_at(alloc, most, rest))
 }
 
 /// A statement and its semicolon, from after its word.
