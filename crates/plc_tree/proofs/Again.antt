@@ -120,9 +120,9 @@ mutual
   statement_gets (trees.AtomicStatement ps) at r h =
       then _ (then _ (primitives_get ps (at + 1 + 1) r) (λ p. done)) (λ p. done)
   statement_gets (trees.IfStatement c b e) at r h =
-      then _ (condition_gets c (at + 1 + 1) (Symbol OpenBrace ∷ block_then b (trees.else_then e r))) (λ p.
       let other = trees.else_then e r in
-      then _ (closed_gets b (p + 1 + 1) other (statements_get b (p + 1 + 1) other)) (λ p.
+      then _ (then _ (condition_gets c (at + 1 + 1) (Symbol OpenBrace ∷ block_then b other)) (λ p. done)) (λ p.
+      then _ (closed_gets b (p + 1) other (statements_get b (p + 1) other)) (λ p.
       then _ (else_gets e p r h) (λ p. done)))
   statement_gets (trees.ChooseStatement a b os) at r h =
       let others = trees.or_then os r in

@@ -100,6 +100,10 @@ ended_law s pre h = then_symbol Semicolon (last h)
 label_law : {n : ℕ} → Law n trees.statement_then (λ q. Word Label ∷ q) (λ m at ts. forms.label_of at ts)
 label_law = then_form name_law (λ k. ended_law (trees.LabelStatement k) (λ q. Word Label ∷ Name k ∷ q) (λ q. refl))
 
+guard_law : {n : ℕ} → Law n (λ c q. Symbol OpenParen ∷ trees.condition_then c (Symbol CloseParen ∷ q)) same
+    (λ m at ts. forms.guard_of at ts)
+guard_law = then_symbol OpenParen (within (λ q. Symbol OpenParen ∷ q) (ended_by_law CloseParen condition_law))
+
 step_law : (n : ℕ) → Law n trees.statement_then same (λ m at ts. forms.step_of at ts)
 step_law n = then_form (primitive_line_law n) (λ p. last (λ q. refl))
 
@@ -160,8 +164,7 @@ module _ {n : ℕ} (b : Blocks n) where
 
   if_law : Law n trees.statement_then (λ q. Word If ∷ q) (λ m at ts. forms.if_of (forms.block_of m) at ts)
   unfolding forms.if_of
-  if_law = then_symbol OpenParen (then_form condition_law (λ c. then_symbol CloseParen (then_form braced_block_law
-      (λ b. then_form else_law (λ e. last (λ q. refl))))))
+  if_law = then_form guard_law (λ c. then_form braced_block_law (λ b. then_form else_law (λ e. last (λ q. refl))))
 
   choose_law : Law n trees.statement_then (λ q. Word Choose ∷ q)
       (λ m at ts. forms.choose_of (forms.block_of m) (forms.ors_of m) at ts)
@@ -288,10 +291,11 @@ parameters_end ps q = trees.parameters_then ps (Symbol CloseParen ∷ q)
 parameters_choice : {n : ℕ} (t : TokenKind) → Choice n parameters_end same (λ m. forms.parameters_next m) t
 parameters_choice (Name k) =
     takes _ (λ m. refl) (then_form (ended_by_law CloseParen (comma_names_law _)) (λ ks. last (λ q. refl)))
+parameters_choice (Symbol CloseParen) = takes _ (λ m. refl) (last (λ q. refl))
 parameters_choice _ = leaves (λ m. refl)
 
 parameters_law : {n : ℕ} → Law n parameters_end same (λ m at ts. forms.parameters_of m at ts)
-parameters_law = led_law parameters_choice (then_symbol CloseParen (last (λ q. refl)))
+parameters_law = led_law parameters_choice (fault [] (Symbol CloseParen ∷ []) (tt, tt) (λ q. refl))
 
 op_tail_law : (n : ℕ) → Law n trees.op_then (λ q. Word Op ∷ q) (λ m at ts. forms.op_tail_of m at ts)
 op_tail_law n = then_form name_law (λ k. then_symbol OpenParen (then_form parameters_law (λ ps.

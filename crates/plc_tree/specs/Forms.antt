@@ -12,7 +12,7 @@ use Rattle.plc_lex.specs.declared.token.Symbol.{Symbol as Punctuation}
 use Rattle.plc_lex.specs.declared.token.Symbol.TheVariants.{OpenBrace, CloseBrace, OpenParen, CloseParen, Semicolon}
 use Rattle.plc_lex.specs.declared.token.Symbol.TheVariants.{Comma, Colon}
 use Rattle.plc_syntax.specs.Trees.{Text, FieldTree, FunctionTree, GhostKindTree, OneOf, OfThreads, GhostTree, Auxiliary}
-use Rattle.plc_syntax.specs.Trees.{InitialTree, PrimitiveTree, StatementTree, PrimitiveStatement, AtomicStatement}
+use Rattle.plc_syntax.specs.Trees.{ConditionTree, InitialTree, PrimitiveTree, StatementTree, PrimitiveStatement, AtomicStatement}
 use Rattle.plc_syntax.specs.Trees.{CallStatement, IfStatement, ChooseStatement, LoopStatement, BreakStatement}
 use Rattle.plc_syntax.specs.Trees.{ReturnStatement, LabelStatement, BlockTree, NoStatement, Then, ElseTree, NoElse}
 use Rattle.plc_syntax.specs.Trees.{ElseBlock, OrTree, NoOr, OrBlock, OpTree, Operates, LiteralTree, ClauseTree, Claims}
@@ -123,10 +123,13 @@ else_next block _ = None
 unfoldable pub else_of : BlockReader → ℕ → List TokenKind → Read ElseTree
 else_of block at ts = led (else_next block) (Ok (NoElse, at, ts)) at ts
 
+-- the condition of an `if` and its parentheses
+abbrev pub guard_of : ℕ → List TokenKind → Read ConditionTree
+guard_of at ts = symbol_of OpenParen at ts >> λ at ts. ended_by CloseParen condition_of at ts
+
 -- an `if`, from after its word
 unfoldable pub if_of : BlockReader → ℕ → List TokenKind → Read StatementTree
-if_of block at ts = symbol_of OpenParen at ts >> λ at ts. condition_of at ts >>= λ c at ts.
-    symbol_of CloseParen at ts >> λ at ts. braced_of block at ts >>= λ b at ts.
+if_of block at ts = guard_of at ts >>= λ c at ts. braced_of block at ts >>= λ b at ts.
     else_of block at ts >>= λ e at ts. Ok (IfStatement c b e, at, ts)
 
 -- a choice, from after its word
@@ -265,11 +268,12 @@ init_of m at ts = led (init_next m) (Ok (None, at, ts)) at ts
 abbrev pub parameters_next : ℕ → Next (List Text)
 parameters_next m (Name n) =
     Some (λ at ts. ended_by CloseParen (comma_names_of m) at ts >>= λ ns at ts. Ok (n ∷ ns, at, ts))
+parameters_next m (Symbol CloseParen) = alone []
 parameters_next m _ = None
 
 -- parameters, of which there may be none, and the closing parenthesis
 abbrev pub parameters_of : ℕ → ℕ → List TokenKind → Read (List Text)
-parameters_of m at ts = led (parameters_next m) (symbol_of CloseParen at ts >> λ at ts. Ok ([], at, ts)) at ts
+parameters_of m at ts = led (parameters_next m) (Err at) at ts
 
 -- an operation, from after its word
 abbrev pub op_tail_of : ℕ → ℕ → List TokenKind → Read OpTree

@@ -8,7 +8,7 @@ use crate::form::{Auxiliary, AuxiliaryKind};
 use crate::list::{braced_list_at, ended_list_at};
 use plc_base::Items;
 use plc_lex::{Keyword, Symbol, TokenKind};
-use plc_syntax::{Initial, Read, Rest, first, name_at, stuck, symbol_at, within};
+use plc_syntax::{Initial, Read, Rest, first, name_at, stuck, within};
 use std::alloc::Global;
 
 /// The values of an auxiliary field, from after the opening brace.

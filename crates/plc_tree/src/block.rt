@@ -11,10 +11,12 @@ ghost use Rattle.plc_tree.specs.Forms.{is_statement_word, begins_statement, begi
 ghost use Rattle.plc_tree.specs.Forms.{if_of, or_block_of, ors_of, choose_of, statement_of, statements_of, block_of};
 ghost use Rattle.plc_tree.specs.Views.{statement_tree, else_tree, ors_tree};
 
-use crate::statement::{atomic_at, ended_at, label_at, named_statement_at, primitive_statement_at};
+use crate::statement::{
+    atomic_at, ended_at, guard_at, label_at, named_statement_at, primitive_statement_at,
+};
 use crate::tree::{Block, Stmt};
 use plc_lex::{Keyword, Symbol, TokenKind};
-use plc_syntax::{Read, Rest, condition_at, first, stuck, symbol_at, within};
+use plc_syntax::{Read, Rest, first, stuck, symbol_at, within};
 use std::alloc::Global;
 
 /// Whether a statement begins with a word.
@@ -104,9 +106,7 @@ fn else_at<'a>(alloc: Global, most: usize, rest: Rest<'a>) -> Read<'a, Option<Bl
 fn if_at<'a>(alloc: Global, most: usize, rest: Rest<'a>) -> Read<'a, Stmt<'a>>
     ensures { Gives statement_tree result (if_of (block_of most) rest.entry.at (kinds rest.entry.tokens.now)) }
 {
-    let after = symbol_at(rest, Symbol::OpenParen)?;
-    let (condition, after) = condition_at(after)?;
-    let after = symbol_at(after, Symbol::CloseParen)?;
+    let (condition, after) = guard_at(rest)?;
     let (yes, after) = braced_at(alloc, most, after)?;
     within!(Stmt::If { condition, yes, no }; no = else_at(alloc, most, after))
 }

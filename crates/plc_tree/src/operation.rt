@@ -39,11 +39,12 @@ fn parameters_at<'a>(alloc: Global, most: usize, rest: Rest<'a>) -> Read<'a, Par
     ensures { Gives parameters_names result (parameters_of most rest.entry.at (kinds rest.entry.tokens.now)) }
 {
     match first(rest) {
-        Some((TokenKind::Name(name), after)) => {
-            let (others, after) = ended_list_at(alloc, most, after, Symbol::CloseParen)?;
-            Ok((Parameters::Some(name.as_slice(), others), after))
-        }
-        _ => Ok((Parameters::None, symbol_at(rest, Symbol::CloseParen)?)),
+        Some((TokenKind::Name(name), after)) => within!(
+            Parameters::Some(name.as_slice(), others);
+            others = ended_list_at(alloc, most, after, Symbol::CloseParen)
+        ),
+        Some((TokenKind::Symbol(Symbol::CloseParen), after)) => Ok((Parameters::None, after)),
+        _ => Err(stuck(rest)),
     }
 }
 

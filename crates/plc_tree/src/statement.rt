@@ -1,15 +1,16 @@
 // Statements that hold no blocks of statements.
 ghost use Rattle.plc_syntax.specs.Syntax.{kinds};
+ghost use Rattle.plc_syntax.specs.Views.{condition_tree};
 ghost use Rattle.plc_syntax.specs.Answers.{Gives};
-ghost use Rattle.plc_tree.specs.Forms.{call_of, named_statement_of, atomic_of, ended_of, label_of, step_of};
+ghost use Rattle.plc_tree.specs.Forms.{call_of, named_statement_of, atomic_of, ended_of, label_of, guard_of, step_of};
 ghost use Rattle.plc_tree.specs.Views.{statement_tree};
 
 use crate::list::braced_list_at;
 use crate::tree::Stmt;
 use plc_lex::{Symbol, TokenKind};
 use plc_syntax::{
-    Read, Rest, argument_at, during_at, first, name_at, named_tail_at, primitive_line_at,
-    symbol_at, within,
+    Condition, Read, Rest, argument_at, condition_at, during_at, first, name_at, named_tail_at,
+    primitive_line_at, symbol_at, within,
 };
 use std::alloc::Global;
 
@@ -57,6 +58,14 @@ pub fn label_at<'a>(rest: Rest<'a>) -> Read<'a, Stmt<'a>>
 {
     let (name, after) = name_at(rest)?;
     ended_at(Stmt::Label(name), after)
+}
+
+/// The condition of an `if` and its parentheses.
+pub fn guard_at<'a>(rest: Rest<'a>) -> Read<'a, Condition<'a>>
+    ensures { Gives condition_tree result (guard_of rest.entry.at (kinds rest.entry.tokens.now)) }
+{
+    let after = symbol_at(rest, Symbol::OpenParen)?;
+    within!(condition; condition = condition_at(after), CloseParen)
 }
 
 /// A primitive as a statement.
