@@ -22,10 +22,6 @@ use Rattle.plc_tree.specs.Forms as forms
 
 -- ---- a form between symbols
 
-closed_law : {X : Type 0} {n : ℕ} {s : Spells X} {f : Reader X} → Law n s same (λ m at ts. f m at ts)
-    → Law n (λ x q. s x (Symbol CloseBrace ∷ q)) same (λ m at ts. forms.closed_of (f m) at ts)
-closed_law law = then_form law (λ x. then_symbol CloseBrace (last (λ q. refl)))
-
 braced_law : {X : Type 0} {n : ℕ} {s : Spells X} {f : Reader X} → Law n s same (λ m at ts. f m at ts)
     → Law n (λ x q. Symbol OpenBrace ∷ s x q) same (λ m at ts. forms.braced_of (f m) at ts)
 braced_law law = then_symbol OpenBrace (within (λ q. Symbol OpenBrace ∷ q) law)
@@ -34,6 +30,10 @@ ended_by_law : {X : Type 0} {n : ℕ} {s : Spells X} {f : Reader X} (k : Punctua
     → Law n s same (λ m at ts. f m at ts)
     → Law n (λ x q. s x (Symbol k ∷ q)) same (λ m at ts. forms.ended_by k (f m) at ts)
 ended_by_law k law = then_form law (λ x. then_symbol k (last (λ q. refl)))
+
+closed_law : {X : Type 0} {n : ℕ} {s : Spells X} {f : Reader X} → Law n s same (λ m at ts. f m at ts)
+    → Law n (λ x q. s x (Symbol CloseBrace ∷ q)) same (λ m at ts. forms.closed_of (f m) at ts)
+closed_law law = ended_by_law CloseBrace law
 
 -- ---- what may be left out
 

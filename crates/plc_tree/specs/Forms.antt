@@ -12,11 +12,12 @@ use Rattle.plc_lex.specs.declared.token.Symbol.{Symbol as Punctuation}
 use Rattle.plc_lex.specs.declared.token.Symbol.TheVariants.{OpenBrace, CloseBrace, OpenParen, CloseParen, Semicolon}
 use Rattle.plc_lex.specs.declared.token.Symbol.TheVariants.{Comma, Colon}
 use Rattle.plc_syntax.specs.Trees.{Text, FieldTree, FunctionTree, GhostKindTree, OneOf, OfThreads, GhostTree, Auxiliary}
-use Rattle.plc_syntax.specs.Trees.{ConditionTree, InitialTree, PrimitiveTree, StatementTree, PrimitiveStatement, AtomicStatement}
+use Rattle.plc_syntax.specs.Trees.{InitialTree, PrimitiveTree, StatementTree, PrimitiveStatement, AtomicStatement}
 use Rattle.plc_syntax.specs.Trees.{CallStatement, IfStatement, ChooseStatement, LoopStatement, BreakStatement}
 use Rattle.plc_syntax.specs.Trees.{ReturnStatement, LabelStatement, BlockTree, NoStatement, Then, ElseTree, NoElse}
 use Rattle.plc_syntax.specs.Trees.{ElseBlock, OrTree, NoOr, OrBlock, OpTree, Operates, LiteralTree, ClauseTree, Claims}
 use Rattle.plc_syntax.specs.Trees.{ItemTree, InvariantItem, OverItem, AtItem, OutlineTree, Outlined, FileTree}
+use Rattle.plc_syntax.specs.Trees.{ConditionTree}
 use Rattle.plc_syntax.specs.Forms.{Read, ◌>>=◌, ◌>>◌, Next, led, alone, first_is, list_of, word_of, symbol_of, name_of}
 use Rattle.plc_syntax.specs.Forms.{comma_name_of, condition_of, named_tail_of, primitive_line_of, initial_of}
 use Rattle.plc_syntax.specs.Forms.{argument_of, during_of, field_of, shared_of, function_of, watch_of, literal_of}

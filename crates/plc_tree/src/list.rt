@@ -93,10 +93,6 @@ pub fn braced_list_at<'a, T: Listed<'a>>(
     ensures { Gives (λ xs. map T.tree xs) result
         (braced_of (closed_of (list_of T.starts T.of most)) rest.entry.at (kinds rest.entry.tokens.now)) }
 {
-    ended_list_at(
-        alloc,
-        most,
-        symbol_at(rest, Symbol::OpenBrace)?,
-        Symbol::CloseBrace,
-    )
+    let after = symbol_at(rest, Symbol::OpenBrace)?;
+    ended_list_at(alloc, most, after, Symbol::CloseBrace)
 }
