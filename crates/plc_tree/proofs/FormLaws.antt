@@ -13,7 +13,7 @@ use Rattle.plc_syntax.specs.Trees as trees
 use Rattle.plc_syntax.specs.Trees.{Text, each_then, maybe_then}
 use Rattle.plc_syntax.proofs.Combinators.{Tokens, Spells, Reader, same, Law, Early, Choice, takes, leaves, last, fault}
 use Rattle.plc_syntax.proofs.Combinators.{early_fault, led_law, early_led, then_form, then_whole, within, any_fuel}
-use Rattle.plc_syntax.proofs.Combinators.{then_symbol, then_word, a_name, a_name_fits, name_law, listed, list_law}
+use Rattle.plc_syntax.proofs.Combinators.{then_symbol, then_word, a_name, a_name_fits, name_law, name_and_law, listed, list_law}
 use Rattle.plc_syntax.specs.Forms.{first_is}
 use Rattle.plc_syntax.proofs.FormLaws.{condition_law, named_tail_law, primitive_line_law, initial_law, argument_law}
 use Rattle.plc_syntax.proofs.FormLaws.{during_law, comma_name_law, field_law, shared_law, function_law, watch_law}
@@ -98,7 +98,7 @@ ended_law : {n : ℕ} (s : trees.StatementTree) (pre : Tokens → Tokens)
 ended_law s pre h = then_symbol Semicolon (last h)
 
 label_law : {n : ℕ} → Law n trees.statement_then (λ q. Word Label ∷ q) (λ m at ts. forms.label_of at ts)
-label_law = then_form name_law (λ k. ended_law (trees.LabelStatement k) (λ q. Word Label ∷ Name k ∷ q) (λ q. refl))
+label_law = then_form (name_and_law Semicolon) (λ k. last (λ q. refl))
 
 guard_law : {n : ℕ} → Law n (λ c q. Symbol OpenParen ∷ trees.condition_then c (Symbol CloseParen ∷ q)) same
     (λ m at ts. forms.guard_of at ts)
@@ -298,9 +298,9 @@ parameters_law : {n : ℕ} → Law n parameters_end same (λ m at ts. forms.para
 parameters_law = led_law parameters_choice (fault [] (Symbol CloseParen ∷ []) (tt, tt) (λ q. refl))
 
 op_tail_law : (n : ℕ) → Law n trees.op_then (λ q. Word Op ∷ q) (λ m at ts. forms.op_tail_of m at ts)
-op_tail_law n = then_form name_law (λ k. then_symbol OpenParen (then_form parameters_law (λ ps.
+op_tail_law n = then_form (name_and_law OpenParen) (λ k. then_form parameters_law (λ ps.
     then_symbol OpenBrace (then_form (fields_law n) (λ ls. then_form (block_law (blocks n)) (λ b.
-    last (λ q. refl)))))))
+    last (λ q. refl))))))
 
 op_choice : {n : ℕ} (t : TokenKind) → Choice n trees.op_then same (λ m. forms.op_next m) t
 op_choice (Word Op) = takes _ (λ m. refl) (op_tail_law _)
@@ -334,7 +334,7 @@ clause_law n = then_form bound_law (λ b. then_form literal_law (λ l.
 -- ---- items, and the outline
 
 over_law : (n : ℕ) → Law n trees.item_then (λ q. Word Over ∷ q) (λ m at ts. forms.over_of m at ts)
-over_law n = then_form name_law (λ k. then_symbol Colon (then_form (clause_law n) (λ c. last (λ q. refl))))
+over_law n = then_form (name_and_law Colon) (λ k. then_form (clause_law n) (λ c. last (λ q. refl)))
 
 at_law : (n : ℕ) → Law n trees.item_then (λ q. Word At ∷ q) (λ m at ts. forms.at_of m at ts)
 at_law n = then_form name_law (λ k. then_form (ended_by_law Colon (comma_names_law n)) (λ ks.

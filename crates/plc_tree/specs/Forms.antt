@@ -19,6 +19,7 @@ use Rattle.plc_syntax.specs.Trees.{ElseBlock, OrTree, NoOr, OrBlock, OpTree, Ope
 use Rattle.plc_syntax.specs.Trees.{ItemTree, InvariantItem, OverItem, AtItem, OutlineTree, Outlined, FileTree}
 use Rattle.plc_syntax.specs.Trees.{ConditionTree}
 use Rattle.plc_syntax.specs.Forms.{Read, ◌>>=◌, ◌>>◌, Next, led, alone, first_is, list_of, word_of, symbol_of, name_of}
+use Rattle.plc_syntax.specs.Forms.{name_and}
 use Rattle.plc_syntax.specs.Forms.{comma_name_of, condition_of, named_tail_of, primitive_line_of, initial_of}
 use Rattle.plc_syntax.specs.Forms.{argument_of, during_of, field_of, shared_of, function_of, watch_of, literal_of}
 use Rattle.plc_syntax.specs.Forms.{or_literal_of, bound_of, depth_of}
@@ -98,7 +99,7 @@ abbrev pub ended_of : StatementTree → ℕ → List TokenKind → Read Statemen
 ended_of s at ts = symbol_of Semicolon at ts >> λ at ts. Ok (s, at, ts)
 
 abbrev pub label_of : ℕ → List TokenKind → Read StatementTree
-label_of at ts = name_of at ts >>= λ n at ts. ended_of (LabelStatement n) at ts
+label_of at ts = name_and Semicolon at ts >>= λ n at ts. Ok (LabelStatement n, at, ts)
 
 -- a primitive as a statement
 abbrev pub step_of : ℕ → List TokenKind → Read StatementTree
@@ -278,8 +279,7 @@ parameters_of m at ts = led (parameters_next m) (Err at) at ts
 
 -- an operation, from after its word
 abbrev pub op_tail_of : ℕ → ℕ → List TokenKind → Read OpTree
-op_tail_of m at ts = name_of at ts >>= λ n at ts.
-    symbol_of OpenParen at ts >> λ at ts. parameters_of m at ts >>= λ ps at ts.
+op_tail_of m at ts = name_and OpenParen at ts >>= λ n at ts. parameters_of m at ts >>= λ ps at ts.
     symbol_of OpenBrace at ts >> λ at ts. fields_of m at ts >>= λ ls at ts.
     block_of m at ts >>= λ b at ts. Ok (Operates n ps ls b, at, ts)
 
@@ -311,7 +311,7 @@ clause_of m at ts = bound_of at ts >>= λ b at ts. literal_of at ts >>= λ l at 
 
 -- an item over an operation, from after its word
 abbrev pub over_of : ℕ → ℕ → List TokenKind → Read ItemTree
-over_of m at ts = name_of at ts >>= λ n at ts. symbol_of Colon at ts >> λ at ts.
+over_of m at ts = name_and Colon at ts >>= λ n at ts.
     clause_of m at ts >>= λ c at ts. Ok (OverItem n c, at, ts)
 
 -- an item at labels, from after its word

@@ -63,10 +63,7 @@ pub fn block_at<'a>(alloc: Global, most: usize, rest: Rest<'a>) -> Read<'a, Bloc
     ensures { Gives (λ b. b) result (block_of most rest.entry.at (kinds rest.entry.tokens.now)) }
 {
     let (block, after) = statements_at(alloc, most, rest)?;
-    match symbol_at(after, Symbol::CloseBrace) {
-        Ok(after) => Ok((block, after)),
-        Err(fault) => Err(fault),
-    }
+    Ok((block, symbol_at(after, Symbol::CloseBrace)?))
 }
 
 /// A block with its opening brace.

@@ -78,10 +78,7 @@ pub fn ended_list_at<'a, T: Listed<'a>>(
         (ended_by end (list_of T.starts T.of most) rest.entry.at (kinds rest.entry.tokens.now)) }
 {
     let (items, after) = list_at(alloc, most, rest)?;
-    match symbol_at(after, end) {
-        Ok(after) => Ok((items, after)),
-        Err(fault) => Err(fault),
-    }
+    Ok((items, symbol_at(after, end)?))
 }
 
 /// The items of a list within braces; at most so many.

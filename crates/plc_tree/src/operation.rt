@@ -9,7 +9,7 @@ use crate::list::{ended_list_at, list_at};
 use crate::tree::Block;
 use plc_base::Items;
 use plc_lex::{Keyword, Symbol, TokenKind};
-use plc_syntax::{Declaration, Read, Rest, first, name_at, stuck, symbol_at, within};
+use plc_syntax::{Declaration, Read, Rest, first, name_and_at, stuck, symbol_at, within};
 use std::alloc::Global;
 
 /// The parameters of an operation, of which there may be none.
@@ -52,8 +52,7 @@ fn parameters_at<'a>(alloc: Global, most: usize, rest: Rest<'a>) -> Read<'a, Par
 fn op_tail_at<'a>(alloc: Global, most: usize, rest: Rest<'a>) -> Read<'a, Operation<'a>>
     ensures { Gives operation_tree result (op_tail_of most rest.entry.at (kinds rest.entry.tokens.now)) }
 {
-    let (name, after) = name_at(rest)?;
-    let after = symbol_at(after, Symbol::OpenParen)?;
+    let (name, after) = name_and_at(rest, Symbol::OpenParen)?;
     let (parameters, after) = parameters_at(alloc, most, after)?;
     let after = symbol_at(after, Symbol::OpenBrace)?;
     let (locals, after) = list_at(alloc, most, after)?;

@@ -11,15 +11,16 @@ use crate::clause::clause_at;
 use crate::form::{Item, Outline};
 use crate::list::ended_list_at;
 use plc_lex::{Keyword, Symbol, Token, TokenKind};
-use plc_syntax::{Fault, Read, Rest, depth_at, first, name_at, stuck, symbol_at, within, word_at};
+use plc_syntax::{
+    Fault, Read, Rest, depth_at, first, name_and_at, name_at, stuck, symbol_at, within, word_at,
+};
 use std::alloc::Global;
 
 /// An item over an operation, from after its word.
 fn over_item_at<'a>(alloc: Global, most: usize, rest: Rest<'a>) -> Read<'a, Item<'a>>
     ensures { Gives item_tree result (over_of most rest.entry.at (kinds rest.entry.tokens.now)) }
 {
-    let (name, after) = name_at(rest)?;
-    let after = symbol_at(after, Symbol::Colon)?;
+    let (name, after) = name_and_at(rest, Symbol::Colon)?;
     within!(Item::Over(name, clause); clause = clause_at(alloc, most, after))
 }
 

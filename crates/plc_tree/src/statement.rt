@@ -9,7 +9,7 @@ use crate::list::braced_list_at;
 use crate::tree::Stmt;
 use plc_lex::{Symbol, TokenKind};
 use plc_syntax::{
-    Condition, Read, Rest, argument_at, condition_at, during_at, first, name_at, named_tail_at,
+    Condition, Read, Rest, argument_at, condition_at, during_at, first, name_and_at, named_tail_at,
     primitive_line_at, symbol_at, within,
 };
 use std::alloc::Global;
@@ -46,18 +46,14 @@ pub fn ended_at<'a>(stmt: Stmt<'a>, rest: Rest<'a>) -> Read<'a, Stmt<'a>>
     ensures { Gives statement_tree result
         (ended_of (statement_tree stmt.entry) rest.entry.at (kinds rest.entry.tokens.now)) }
 {
-    match symbol_at(rest, Symbol::Semicolon) {
-        Ok(after) => Ok((stmt, after)),
-        Err(fault) => Err(fault),
-    }
+    Ok((stmt, symbol_at(rest, Symbol::Semicolon)?))
 }
 
 /// A label, from after its word.
 pub fn label_at<'a>(rest: Rest<'a>) -> Read<'a, Stmt<'a>>
     ensures { Gives statement_tree result (label_of rest.entry.at (kinds rest.entry.tokens.now)) }
 {
-    let (name, after) = name_at(rest)?;
-    ended_at(Stmt::Label(name), after)
+    within!(Stmt::Label(name); name = name_and_at(rest, Symbol::Semicolon))
 }
 
 /// The condition of an `if` and its parentheses.
