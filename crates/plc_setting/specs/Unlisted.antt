@@ -1,5 +1,5 @@
 -- Words of private functions: a setting while its lists are made.
-use Rattle.std.specs.Prelude.{List, [], ◌++◌}
+use Rattle.std.specs.Prelude.{[], ◌++◌}
 use Rattle.std.specs.List.{list_any}
 use Rattle.plc_lang.specs.Allocation.{is_new}
 use Rattle.plc_flow.specs.declared.flow.Flow.{Flow}

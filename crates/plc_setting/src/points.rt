@@ -60,12 +60,13 @@ pub fn count_at(flow: &Flow, outline: &Outline, p: u16) -> usize
     ensures few { result ≤ length outline.now.items }
 {
     let labelled = is_labelled(flow, p);
-    outline
-        .items
-        .as_slice()
-        .iter()
-        .filter(|i| stands_at(flow, p, labelled, i))
-        .count()
+    let mut count = 0;
+    for item in outline.items.as_slice() {
+        if stands_at(flow, p, labelled, item) {
+            count += 1;
+        }
+    }
+    count
 }
 
 /// The clause with a number among those at a point, if there are so many.
