@@ -4,3 +4,4 @@ pub mod Fitting
 pub mod NodeSorts
 pub mod Runs
 pub mod Labelled
+mod Listed

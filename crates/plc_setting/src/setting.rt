@@ -1,5 +1,5 @@
 // What every item of a ground set rests on: the variables of the threads, what is executed, and the nodes.
-ghost use Rattle.std.specs.Prelude.{◌≡◌, ◌≤◌, ◌++◌, [], length, map, IfOk, OnOk, option_copied};
+ghost use Rattle.std.specs.Prelude.{◌≡◌, ◌≤◌, ◌++◌, [], length, map, IfOk, OnOk, IsOk, option_copied};
 ghost use Rattle.plc_base.specs.Limits.{most};
 ghost use Rattle.plc_base.specs.declared.limits.What1.TheVariants as limits;
 ghost use Rattle.plc_lang.specs.Numbering.{places_from};
@@ -268,6 +268,31 @@ fn unlisted(alloc: Global, marked: bool, flow: &Flow, outline: &Outline, o: &Obl
     }
 }
 
+/// Lists what a setting has of which nothing is listed yet.
+fn list_all(
+    alloc: Global,
+    flow: &Flow,
+    outline: &Outline,
+    o: &Obligation,
+    s: &mut Setting,
+) -> Result<(), NoMemory>
+    requires fits { Fits flow.now outline.now }
+    requires unlisted { s.old ≡ unlisted flow.now outline.now o.now }
+    ensures { OnOk result (s.new ≡ setting_of flow.now outline.now o.now) }
+{
+    list_acts(flow, outline, o, s)?;
+    list_nodes(alloc, flow, outline, s)
+}
+
+/// What was made, where its lists were listed.
+fn if_listed<T: Drop>(listed: Result<(), NoMemory>, made: T) -> Result<T, NoMemory>
+    ensures made { IfOk result (λ r. r ≡ made) }
+    ensures listed { IfOk result (λ _. IsOk listed) }
+{
+    listed?;
+    Ok(made)
+}
+
 /// The setting of an obligation, where it is known whether the program uses marks.
 pub fn setting_of(
     alloc: Global,
@@ -282,7 +307,6 @@ pub fn setting_of(
     ensures few { IfOk result (λ s. length s.acts ≤ most_acts) }
 {
     let mut s = unlisted(alloc, marked, flow, outline, o);
-    list_acts(flow, outline, o, &mut s)?;
-    list_nodes(alloc, flow, outline, &mut s)?;
-    Ok(s)
+    let listed = list_all(alloc, flow, outline, o, &mut s);
+    if_listed(listed, s)
 }
