@@ -1,7 +1,7 @@
 // The flows of statements, by the written table: a line for each step.
 use crate::tests::tables::{Answers, assert_lines, assert_rows};
 use crate::tests::texts::{BEFORE, number, push_repeated, read};
-use plc_base::{PointId, What1};
+use plc_base::What1;
 use plc_flow::{Flow, FlowFault, Gate, Step, lower};
 use std::alloc::{AllocError, Global};
 
@@ -24,27 +24,17 @@ fn push_gate(text: &mut String, gate: &Gate) -> Result<(), AllocError> {
     write!(text, " gate {entry} {exit} {first} {after}")
 }
 
-fn push_gates(text: &mut String, gates: &[Gate]) -> Result<(), AllocError> {
-    for gate in gates {
-        push_gate(text, gate)?;
-    }
-    Ok(())
-}
-
-fn push_labels(text: &mut String, labels: &[PointId]) -> Result<(), AllocError> {
-    for label in labels {
-        let point = label.0;
-        write!(text, " label {point}")?;
-    }
-    Ok(())
-}
-
 // How many points there are, the operations, and the labelled points.
 fn push_head(text: &mut String, flow: &Flow) -> Result<(), AllocError> {
     let points = flow.points;
     write!(text, "{points} points")?;
-    push_gates(text, flow.gates.as_slice())?;
-    push_labels(text, flow.labels.as_slice())?;
+    for gate in flow.gates.as_slice() {
+        push_gate(text, gate)?;
+    }
+    for label in flow.labels.as_slice() {
+        let point = label.0;
+        write!(text, " label {point}")?;
+    }
     text.push('\n')
 }
 
@@ -75,22 +65,13 @@ fn push_lowering(alloc: Global, answer: &mut String, text: &str) -> Result<(), A
     }
 }
 
-fn push_line(text: &mut String, line: &str) -> Result<(), AllocError> {
-    text.push_str(line)?;
-    text.push('\n')
-}
-
-fn push_lines(text: &mut String, statement: &str) -> Result<(), AllocError> {
-    for line in statement.split("|") {
-        push_line(text, line)?;
-    }
-    Ok(())
-}
-
 // The statement's file; each `|` begins a line, the first is line 8.
 fn push_file(text: &mut String, statement: &str) -> Result<(), AllocError> {
     text.push_str(BEFORE)?;
-    push_lines(text, statement)?;
+    for line in statement.split("|") {
+        text.push_str(line)?;
+        text.push('\n')?;
+    }
     text.push('}')
 }
 

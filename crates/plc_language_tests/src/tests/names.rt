@@ -3,18 +3,13 @@ use crate::tests::tables::{Answers, assert_answer, assert_lines};
 use plc_base::{Names, What1};
 use std::alloc::{AllocError, Global};
 
-// What a name comes to.
-fn push_name(answer: &mut String, names: &mut Names, name: &str) -> Result<(), AllocError> {
-    match names.add(name.as_bytes()) {
-        Ok(number) => write!(answer, "{number} "),
-        Err(fault) => write!(answer, "{fault:?} "),
-    }
-}
-
 // What each name of a text comes to, one after the other.
 fn push_names(answer: &mut String, names: &mut Names, text: &str) -> Result<(), AllocError> {
     for name in text.split(" ") {
-        push_name(answer, names, name)?;
+        match names.add(name.as_bytes()) {
+            Ok(number) => write!(answer, "{number} ")?,
+            Err(fault) => write!(answer, "{fault:?} ")?,
+        }
     }
     Ok(())
 }

@@ -184,13 +184,18 @@ fn outlines_are_read_or_refused(rt: HostRuntime) -> Result<(), AllocError> {
     assert_lines(&rt, rt.alloc(), &ITEM, ITEMS)
 }
 
-// Items of the stack's outline: a text, so many times a second one, and a third, with `|` between them.
+// Items: a text, so many times a second one, and a third, with `|` between them.
 fn push_items(text: &mut String, count: u32, items: &str) -> Result<(), AllocError> {
     let (before, items) = items.split_once("|").unwrap_or((items, ""));
     let (each, after) = items.split_once("|").unwrap_or((items, ""));
+    push_repeated(text, count, before, each, after)
+}
+
+// The stack with an outline of such items.
+fn push_stack(text: &mut String, count: u32, items: &str) -> Result<(), AllocError> {
     text.push_str(STACK)?;
     text.push_str("outline { ")?;
-    push_repeated(text, count, before, each, after)?;
+    push_items(text, count, items)?;
     text.push_str(" }")
 }
 
@@ -203,7 +208,7 @@ struct RepeatedItems {
 impl Answers for RepeatedItems {
     fn push(&self, alloc: Global, answer: &mut String, items: &str) -> Result<(), AllocError> {
         let mut text = String::new(alloc);
-        match push_items(&mut text, self.count, items) {
+        match push_stack(&mut text, self.count, items) {
             Ok(()) => push_fate_after(alloc, answer, text.as_str()),
             Err(fault) => Err(fault),
         }
