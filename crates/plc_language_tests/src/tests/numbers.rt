@@ -14,37 +14,28 @@ fn push_clause(text: &mut String, clause: &Clause) -> Result<(), AllocError> {
     write!(text, " {literals:?}\n")
 }
 
-fn push_site(text: &mut String, site: &Site) -> Result<(), AllocError> {
-    match site {
-        Site::Over(op) => write!(text, "over {op:?}"),
+fn push_item(text: &mut String, item: &Item) -> Result<(), AllocError> {
+    match &item.site {
+        Site::Over(op) => write!(text, "over {op:?}")?,
         Site::At(labels) => {
             let labels = labels.as_slice();
-            write!(text, "at {labels:?}")
+            write!(text, "at {labels:?}")?
         }
     }
-}
-
-fn push_invariants(text: &mut String, clauses: &[Clause]) -> Result<(), AllocError> {
-    for clause in clauses {
-        text.push_str("inv")?;
-        push_clause(text, clause)?;
-    }
-    Ok(())
-}
-
-fn push_items(text: &mut String, items: &[Item]) -> Result<(), AllocError> {
-    for item in items {
-        push_site(text, &item.site)?;
-        push_clause(text, &item.clause)?;
-    }
-    Ok(())
+    push_clause(text, &item.clause)
 }
 
 fn push_outline(text: &mut String, outline: &Outline) -> Result<(), AllocError> {
     let depth = outline.depth;
     write!(text, "depth {depth}\n")?;
-    push_invariants(text, outline.invariants.as_slice())?;
-    push_items(text, outline.items.as_slice())
+    for clause in outline.invariants.as_slice() {
+        text.push_str("inv")?;
+        push_clause(text, clause)?;
+    }
+    for item in outline.items.as_slice() {
+        push_item(text, item)?;
+    }
+    Ok(())
 }
 
 // The operation of each label, and that of each item.

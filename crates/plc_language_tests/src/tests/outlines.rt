@@ -291,7 +291,9 @@ fn came_behind(alloc: Global, file: &mut File, start: Rest) -> Result<String, Pa
         locals: Items::new(alloc),
         labels: mem::replace(&mut file.labels, Items::new(alloc)),
     };
-    came_in_scope(alloc, &scope, file.ops.as_slice(), start)
+    let came = came_in_scope(alloc, &scope, file.ops.as_slice(), start);
+    drop(scope);
+    came
 }
 
 // The tokens after the first one.

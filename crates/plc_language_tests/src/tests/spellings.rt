@@ -4,22 +4,17 @@ use crate::tests::texts::{ForTokens, Lexed};
 use plc_lex::{Token, TokenKind};
 use std::alloc::{AllocError, Global};
 
-// What a token is.
-fn push_kind(text: &mut String, kind: &TokenKind) -> Result<(), AllocError> {
-    match kind {
-        TokenKind::Word(word) => write!(text, "{word:?}"),
-        TokenKind::Symbol(symbol) => write!(text, "{symbol:?}"),
-        TokenKind::Number(number) => write!(text, "{number}"),
-        TokenKind::Name(name) => {
-            let name = str::from_utf8(name.as_slice()).unwrap_or("?");
-            write!(text, "'{name}'")
-        }
-    }
-}
-
 // What a token is, with its bytes and its line.
 fn push_token(text: &mut String, token: &Token) -> Result<(), AllocError> {
-    push_kind(text, &token.kind)?;
+    match &token.kind {
+        TokenKind::Word(word) => write!(text, "{word:?}")?,
+        TokenKind::Symbol(symbol) => write!(text, "{symbol:?}")?,
+        TokenKind::Number(number) => write!(text, "{number}")?,
+        TokenKind::Name(name) => {
+            let name = str::from_utf8(name.as_slice()).unwrap_or("?");
+            write!(text, "'{name}'")?
+        }
+    }
     let start = token.span.start;
     let end = token.span.end;
     let line = token.line;
