@@ -291,9 +291,7 @@ fn came_behind(alloc: Global, file: &mut File, start: Rest) -> Result<String, Pa
         locals: Items::new(alloc),
         labels: mem::replace(&mut file.labels, Items::new(alloc)),
     };
-    let came = came_in_scope(alloc, &scope, file.ops.as_slice(), start);
-    drop(scope);
-    came
+    came_in_scope(alloc, &scope, file.ops.as_slice(), start)
 }
 
 // The tokens after the first one.
