@@ -1,16 +1,17 @@
 -- What was declared before and what is declared next.
-use Rattle.std.proofs.Common.{◌≡◌, ◌⊎◌, inl, inr, ◌+◌, ◌≤◌, ◌<◌, ℕ, zero, suc, Bool, List, [], ◌∷◌, ◌++◌, length, slice_get, Option, Some, None, Ok, ◌∙◌, refl, ap, subst, arith}
+use Rattle.std.proofs.Common.{◌≡◌, ◌⊎◌, inl, inr, ◌+◌, ◌*◌, ◌≤◌, ◌<◌, ℕ, zero, suc, Bool, List, [], ◌∷◌, ◌++◌, length, slice_get, Option, Some, None, Ok, ◌∙◌, refl, ap, subst, arith}
 use Rattle.std.proofs.lemmas.List.{length-append}
+use Rattle.std.proofs.lemmas.Nat.{mul-le}
 use Rattle.plc_base.specs.Names.{place_of}
 use Rattle.plc_syntax.specs.Trees.{Text}
 use Rattle.plc_scope.specs.declared.scope.Scope.{Scope}
 use Rattle.plc_scope.specs.declared.binding.Binding.{Binding}
 use Rattle.plc_scope.specs.declared.binding.Binding.TheVariants.{Taken}
 use Rattle.plc_scope.specs.Scope.{◌>>=◌, if_new, with_name, with_label, declared, declared_label, declared_local, declared_parameter}
-use Rattle.plc_scope.specs.Answers.{HasRoomForLocals, GrowsByLocals}
+use Rattle.plc_scope.specs.Answers.{HasRoom, HasRoomForLocals, GrowsByLocals}
 use Rattle.plc_lang.specs.declared.syntax.Op.{Op}
 use Rattle.plc_outparse.specs.Answers.{OpsFit}
-use Rattle.plc_parse.specs.Growth.{most_labels, KeepsLists, CanLabel, GrowsByLabels, GrowsByOps}
+use Rattle.plc_parse.specs.Growth.{most_labels, AddsNames, KeepsLists, CanLabel, GrowsByLabels, GrowsByOps}
 use Rattle.plc_scope.proofs.Holds.{has_along}
 use Rattle.plc_parse.proofs.Fits.{Few, parameter_few, local_few}
 
@@ -57,6 +58,31 @@ ops_then a b c n k e g h = record { locals = h.locals; labels = h.labels; names 
 
 pub lists_then : (a b c : Scope) → KeepsLists a b → KeepsLists b c → KeepsLists a c
 lists_then a b c g h = record { locals = h.locals ∙ g.locals; labels = h.labels ∙ g.labels }
+
+-- so many declarations, each of at most so many names
+pub names_then : (a b c : Scope) (k n m : ℕ) → m ≡ n + 1 → AddsNames a b (k * n) → AddsNames b c k
+    → AddsNames a c (k * m)
+names_then a b c k n m e g h = record {
+  names = record {
+    names = rw e (omega (arith, g.names.names, h.names.names));
+    limit = h.names.limit ∙ g.names.limit;
+  };
+  lists = lists_then a b c g.lists h.lists;
+}
+
+pub names_within : (a b : Scope) (k n m : ℕ) → n ≤ m → AddsNames a b (k * n) → AddsNames a b (k * m)
+names_within a b k n m less g =
+    let all = mul-le k n k m (omega arith) less in
+    record {
+      names = record { names = omega (arith, all, g.names.names); limit = g.names.limit };
+      lists = g.lists;
+    }
+
+-- there is room for one more, where there is for all and one past them
+pub names_fit : (a b : Scope) (k n m : ℕ) → n ≤ m → HasRoom a (k * (m + 1)) → AddsNames a b (k * n) → HasRoom b k
+names_fit a b k n m less room g =
+    let all = mul-le k n k m (omega arith) less in
+    record { names = omega (arith, all, room.names, g.names.names, g.names.limit) }
 
 pub locals_then : (a b c : Scope) → GrowsByLocals a b → GrowsByLocals b c → GrowsByLocals a c
 locals_then a b c g h = record { locals = h.locals; names = omega (arith, g.names, h.names); limit = h.limit ∙ g.limit }
