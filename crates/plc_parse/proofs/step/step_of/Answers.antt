@@ -1,8 +1,9 @@
 use Rattle.std.proofs.Common.{◌≡◌, ◌∙◌, ◌+◌, ◌||◌, ◌++◌, ℕ, Bool, length, drop, Ok, ap, arith}
+use Rattle.std.proofs.lemmas.List.{append-nil}
 use Rattle.std.proofs.lemmas.Result.{err_from_is_err_and}
 use Rattle.plc_scope.specs.Scope.{◌>>=◌}
 use Rattle.plc_scope.proofs.Sequence.{bind_stops, fails_before}
-use Rattle.plc_scope.proofs.Turns.{ahead, makes, makes_none, size_turn}
+use Rattle.plc_scope.proofs.Turns.{ahead, makes, makes_none, made, size_turn, size_fits, size_end}
 use Rattle.plc_parse.specs.Meaning.{counted, count_of, allocates}
 use Rattle.plc_parse.proofs.Loops.{form_made, forms_made, forms_from, one_form, forms_go, one_form_more, one_form_long}
 use Rattle.plc_parse.proofs.Loops.{added}
@@ -57,3 +58,44 @@ loop-form-preserved g c =
           )) a.is)
           ∙ l.invariant.read;
     }
+
+pub meaning-requires-clause-place : goal.meaning-requires-clause-place
+meaning-requires-clause-place g c =
+    let l = c.loop-form in
+    let k = g.F.StepForm.kind in
+    let left = size_turn (λ x. k.size x + 1) k.tree c.args.forms.now l.form-index c.form-item.result _ c.form-item.is
+    c.loop-form-test.true in
+    omega (arith, left, l.invariant.place, c.requires.place)
+
+pub overflow_add-at : goal.overflow_add-at
+overflow_add-at g c =
+    let l = c.loop-form in
+    let k = g.F.StepForm.kind in
+    let left = size_turn (λ x. k.size x + 1) k.tree c.args.forms.now l.form-index c.form-item.result _ c.form-item.is
+    c.loop-form-test.true in
+    omega (arith, left, l.invariant.place, c.requires.place, c.size.ensures)
+
+pub overflow_add-at-in-loop-form : goal.overflow_add-at-in-loop-form
+overflow_add-at-in-loop-form g c =
+    let l = c.loop-form in
+    let k = g.F.StepForm.kind in
+    let left = size_turn (λ x. k.size x + 1) k.tree c.args.forms.now l.form-index c.form-item.result _ c.form-item.is
+    c.loop-form-test.true in
+    omega (arith, left, l.invariant.place, c.requires.place, c.size.ensures)
+
+pub returns-clause-read : goal.returns-clause-read
+returns-clause-read g c =
+    let l = c.loop-form in
+    let k = g.F.StepForm.kind in
+    let means = k.means c.args.scope.now in
+    made (forms_from means k.size k.tree) (one_form means k.size k.tree) form_made forms_made
+    (forms_go means k.size k.tree) (length l.step.primitives, l.step.has_new, l.at) c.args.forms.now l.form-index
+    l.step.primitives _ c.loop-form-test.false l.invariant.read
+    ∙ ap (λ ks. Ok (ks, l.at)) (append-nil l.step.primitives)
+
+pub returns-clause-place : goal.returns-clause-place
+returns-clause-place g c =
+    let l = c.loop-form in
+    let k = g.F.StepForm.kind in
+    let none = size_end (λ x. k.size x + 1) k.tree c.args.forms.now l.form-index c.loop-form-test.false in
+    omega (arith, none, l.invariant.place)
