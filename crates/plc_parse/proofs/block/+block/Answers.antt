@@ -10,7 +10,7 @@ use Rattle.plc_syntax.specs.Trees.{BlockTree}
 use Rattle.plc_tree.specs.declared.tree.Stmt.{Stmt}
 use Rattle.plc_tree.specs.Views.{block_tree, ors_tree}
 use Rattle.plc_scope.specs.Scope.{◌>>=◌}
-use Rattle.plc_scope.proofs.Sequence.{bind_stops}
+use Rattle.plc_scope.proofs.Sequence.{bind_stops, fails_along}
 use Rattle.plc_scope.proofs.Turns.{left_at, makes, makes_none, made}
 use Rattle.plc_parse.specs.Sizes.{statements_size, ors_size}
 use Rattle.plc_parse.specs.Units.{lines_of}
@@ -130,3 +130,54 @@ statement-returns-in-Break t c = rw c.in-Break.is
 pub statement-returns-in-Label : goal.statement-returns-in-Label
 statement-returns-in-Label t c = rw c.in-Label.is
     (c.label.ensures (lines_of c.args.context.tokens.now) c.args.context.in_loop)
+
+pub statements-statement-requires : goal.statements-statement-requires
+statements-statement-requires t c =
+    let l = c.loop-stmt in
+    let left = ap (λ (ss : List Stmt). statements_size (block_tree ss)) (left_at c.stmts-stmt-items.result.now
+    l.stmt-index c.stmt-item.result _ c.stmt-item.is c.loop-stmt-test.true) in
+    let whole = ap statements_size c.stmts-stmt-items.ensures in (
+      omega (arith, left, whole, l.invariant.after, l.invariant.place, c.decreases),
+      record { room = l.invariant.room; place = omega (arith, left, whole, l.invariant.place, c.requires.place) },
+    )
+
+pub statements-returns-in_err-stmt : goal.statements-returns-in_err-stmt
+statements-returns-in_err-stmt t c =
+    let l = c.loop-stmt in
+    let lines = lines_of c.args.context.tokens.now in
+    let in_loop = c.args.context.in_loop in
+    let p = err_from_is_err_and c.from_residual.result c.from_residual.ensures.1 in
+    rw (p.1, p.2) (record {
+      labels = tt;
+      place = tt;
+      read = fails_along _ _ _ (ap (λ (b : BlockTree). statements_mean lines c.args.scope.now in_loop c.args.start b)
+          c.stmts-stmt-items.ensures)
+          (makes_none (statements_from lines in_loop) (one_statement lines in_loop) line_made lines_made
+          (statements_go lines in_loop) (l.scope, l.at) c.stmts-stmt-items.result.now l.stmt-index c.stmt-item.result _
+          l.lines.items _ _ c.stmt-item.is c.loop-stmt-test.true
+          (bind_stops _ _ (λ f. Ok ((line_at lines l.at, f.0), (f.1, f.2))) c.in_err-stmt.ensures.read)
+          l.invariant.read);
+    })
+
+pub choices-overflow_add-at : goal.choices-overflow_add-at
+choices-overflow_add-at t c =
+    let l = c.loop-block in
+    let left = ap (λ (bs : List BlockTree). ors_size (ors_tree bs)) (left_at c.args.others.now l.block-index
+    c.block-item.result _ c.block-item.is c.loop-block-test.true) in
+    omega (arith, left, l.invariant.place, c.requires.place)
+
+pub choices-statements-requires : goal.choices-statements-requires
+choices-statements-requires t c =
+    let l = c.loop-block in
+    let left = ap (λ (bs : List BlockTree). ors_size (ors_tree bs)) (left_at c.args.others.now l.block-index
+    c.block-item.result _ c.block-item.is c.loop-block-test.true) in (
+      omega (arith, left, l.invariant.after, l.invariant.place, c.decreases),
+      record { room = l.invariant.room; place = omega (arith, left, l.invariant.place, c.requires.place) },
+    )
+
+pub choices-overflow_add-at-in-loop-block : goal.choices-overflow_add-at-in-loop-block
+choices-overflow_add-at-in-loop-block t c =
+    let l = c.loop-block in
+    let left = ap (λ (bs : List BlockTree). ors_size (ors_tree bs)) (left_at c.args.others.now l.block-index
+    c.block-item.result _ c.block-item.is c.loop-block-test.true) in
+    omega (arith, left, l.invariant.place, c.in_ok-block.ensures.place, c.requires.place)
