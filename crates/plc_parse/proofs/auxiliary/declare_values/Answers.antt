@@ -4,7 +4,7 @@ use Rattle.std.proofs.lemmas.Result.{err_from_is_err_and}
 use Rattle.plc_syntax.specs.Views.{text_of}
 use Rattle.plc_scope.specs.Scope.{◌>>=◌}
 use Rattle.plc_scope.proofs.Sequence.{bind_stops}
-use Rattle.plc_scope.proofs.Turns.{ahead, makes, makes_none, made, count_turn}
+use Rattle.plc_scope.proofs.Turns.{ahead, makes, makes_none, made, count_turn, count_end}
 use Rattle.plc_parse.specs.Views.{values_with}
 use Rattle.plc_parse.proofs.Growth.{lists_then}
 use Rattle.plc_parse.proofs.Loops.{one_declared, all_declared, values_from, one_value, values_go, one_more, all_of}
@@ -55,3 +55,21 @@ returns-clause-read c =
     (values_go c.args.owner text_of) (l.scope, length l.values, l.at) c.args.others.now l.name-index l.values _ c.loop-name-test.false
     l.invariant.read
     ∙ ap (λ o. Ok o) (all_of l.values l.scope l.at)
+
+pub overflow_add-at : goal.overflow_add-at
+overflow_add-at c =
+    let l = c.loop-name in
+    let left = count_turn text_of c.args.others.now l.name-index c.loop-name-test.true in
+    omega (arith, left, l.invariant.place, c.requires.place)
+
+pub overflow_add-at-in-loop-name : goal.overflow_add-at-in-loop-name
+overflow_add-at-in-loop-name c =
+    let l = c.loop-name in
+    let left = count_turn text_of c.args.others.now l.name-index c.loop-name-test.true in
+    omega (arith, left, l.invariant.place, c.requires.place)
+
+pub returns-clause-place : goal.returns-clause-place
+returns-clause-place c =
+    let l = c.loop-name in
+    let none = count_end text_of c.args.others.now l.name-index c.loop-name-test.false in
+    omega (arith, none, l.invariant.place)
