@@ -30,38 +30,37 @@ const EMPTY_WITH_MARKS: &str = r#"{"env":[],"trees":[],"version":2}"#;
 const WHOLE: &str =
     r#"{"env":[[[0,7],[[0,[]],[1,[2]],[3,[]],[7,[0,2]]]],[[],[]]],"trees":[[[0,3],[1,0,4294967295]],[]],"version":1}"#;
 
+// Texts with what is written of them.
+const READ: &[(&str, &str)] = &[
+    (EMPTY, EMPTY),
+    (EMPTY_WITH_MARKS, EMPTY_WITH_MARKS),
+    (WHOLE, WHOLE),
+    (
+        " {\"version\":1,\"trees\":[ [[1 ,2,3]] ],\r\n\t\"env\":[]}\n",
+        r#"{"env":[],"trees":[[[1,2,3]]],"version":1}"#,
+    ),
+    (r#"{"\u0065nv":[],"trees":[],"version":1}"#, EMPTY),
+    (r#"{"env":7,"env":[],"trees":[],"version":1}"#, EMPTY),
+    (
+        r#"{"version":1,"version":2,"trees":[],"env":[]}"#,
+        EMPTY_WITH_MARKS,
+    ),
+];
+
 #[test]
 fn what_is_written_is_read(rt: HostRuntime) {
-    let rows = [
-        (EMPTY, EMPTY),
-        (EMPTY_WITH_MARKS, EMPTY_WITH_MARKS),
-        (WHOLE, WHOLE),
-        (
-            " {\"version\":1,\"trees\":[ [[1 ,2,3]] ],\r\n\t\"env\":[]}\n",
-            r#"{"env":[],"trees":[[[1,2,3]]],"version":1}"#,
-        ),
-        (r#"{"\u0065nv":[],"trees":[],"version":1}"#, EMPTY),
-        (r#"{"env":7,"env":[],"trees":[],"version":1}"#, EMPTY),
-        (
-            r#"{"version":1,"version":2,"trees":[],"env":[]}"#,
-            EMPTY_WITH_MARKS,
-        ),
-    ];
-    for (text, written) in rows {
+    for row in READ {
+        let (text, written) = *row;
         assert!(rt; is_answered(rt.alloc(), text, Ok(written)), "{text}");
     }
 }
 
-// Texts that are no JSON.
-const NOT_JSON: &[&str] = &[
-    "",
-    "{",
-    r#"{"env":1e999,"trees":[],"version":1}"#,
-    r#"{"env":[],"trees":[],"version":2"#,
-];
-
-// Parts of a certificate with texts in which the part is the first at fault.
-const BAD_PARTS: &str = r#"root => {}
+// Texts that are no JSON, and parts of a certificate with texts in which the part is the first at fault.
+const REFUSED: &str = r#"json => 
+json => {
+json => {"env":1e999,"trees":[],"version":1}
+json => {"env":[],"trees":[],"version":2
+root => {}
 root => [[],[],1]
 root => {"env":7,"trees":7,"version":2,"x":0}
 root => {"env":7,"tree":7,"version":2}
@@ -76,27 +75,22 @@ trees => {"env":[],"trees":[[[1,0]]],"version":1}
 trees => {"env":[],"trees":[[[0,4294967296]]],"version":1}
 "#;
 
-// The part that a word names.
-fn part(word: &str) -> CertField {
-    match word {
+// The fault that a word names.
+fn fault(word: &str) -> CertFault {
+    let field = match word {
+        "json" => return CertFault::NotJson,
         "root" => CertField::Root,
         "env" => CertField::Env,
         _ => CertField::Trees,
-    }
+    };
+    CertFault::Shape { field }
 }
 
 #[test]
 fn each_refusal_comes_in_its_order(rt: HostRuntime) {
-    for text in NOT_JSON {
-        assert!(rt;
-            is_answered(rt.alloc(), *text, Err(CertFault::NotJson)),
-            "{text}"
-        );
-    }
-    for row in BAD_PARTS.lines() {
+    for row in REFUSED.lines() {
         let (word, text) = row.split_once(" => ").unwrap_or(("", row));
-        let fault = CertFault::Shape { field: part(word) };
-        assert!(rt; is_answered(rt.alloc(), text, Err(fault)), "{row}");
+        assert!(rt; is_answered(rt.alloc(), text, Err(fault(word))), "{row}");
     }
 }
 
@@ -106,21 +100,25 @@ fn version_is_refused(alloc: Global, version: &str, fault: CertFault) -> Result<
     Ok(is_answered(alloc, text.as_str(), Err(fault)))
 }
 
+const BAD_VERSION: CertFault = CertFault::Shape {
+    field: CertField::Version,
+};
+
+// Versions with their faults.
+const VERSIONS: &[(&str, CertFault)] = &[
+    ("1.0", BAD_VERSION),
+    ("2.0", BAD_VERSION),
+    ("-1", BAD_VERSION),
+    ("18446744073709551616", BAD_VERSION),
+    ("3", CertFault::Version { n: 3 }),
+    ("0", CertFault::Version { n: 0 }),
+    ("18446744073709551615", CertFault::Version { n: u64::MAX }),
+];
+
 // The version is judged before the environments and the trees.
 #[test]
 fn versions_are_refused(rt: HostRuntime) -> Result<(), AllocError> {
-    let shape = CertFault::Shape {
-        field: CertField::Version,
-    };
-    for row in &[
-        ("1.0", shape),
-        ("2.0", shape),
-        ("-1", shape),
-        ("18446744073709551616", shape),
-        ("3", CertFault::Version { n: 3 }),
-        ("0", CertFault::Version { n: 0 }),
-        ("18446744073709551615", CertFault::Version { n: u64::MAX }),
-    ] {
+    for row in VERSIONS {
         let (version, fault) = *row;
         assert!(rt;
             version_is_refused(rt.alloc(), version, fault)?,
@@ -132,15 +130,16 @@ fn versions_are_refused(rt: HostRuntime) -> Result<(), AllocError> {
 
 // One environment with a shared pointer and two locals, and one tree of a split and a leaf.
 fn example(alloc: Global) -> Result<Cert, NoMemory> {
-    let env = Env::entry(alloc, 1, 2, &Mask::full(3))?;
     let nodes = vec![in alloc; Node::Split(12), Node::Leaf(5, 0)]?;
     let tree = Tree {
         nodes: Items::from_vec(nodes),
     };
+    let trees = vec![in alloc; tree]?;
+    let env = vec![in alloc; Env::entry(alloc, 1, 2, &Mask::full(3))?]?;
     Ok(Cert {
         version: 2,
-        env: Items::from_vec(vec![in alloc; env]?),
-        trees: Items::from_vec(vec![in alloc; tree]?),
+        env: Items::from_vec(env),
+        trees: Items::from_vec(trees),
     })
 }
 

@@ -15,27 +15,36 @@ use plc_ground::{GroundSet, GroundTerm, Lit, Map, Sort, Symbol};
 use plc_oblig::{Obligation, clauses, ground, nth};
 use plc_testing::{HAZARDS, put};
 use std::alloc::{AllocError, Global};
+use std::process::Abort;
+
+// The word of a symbol, and its number where it has one.
+fn symbol_parts(symbol: Symbol) -> (&'static str, Option<u32>) {
+    match symbol {
+        Symbol::Null => ("null", None),
+        Symbol::Shared(i) => ("s", Some(i as u32)),
+        Symbol::Mine(k) => ("a", Some(k as u32)),
+        Symbol::Theirs(k) => ("b", Some(k as u32)),
+        Symbol::New => ("new", None),
+        Symbol::Bound(i) => ("c", Some(i as u32)),
+        Symbol::Loaded(k) => ("l", Some(k as u32)),
+        Symbol::Yes => ("yes", None),
+        Symbol::No => ("no", None),
+        Symbol::Nobody => ("none", None),
+        Symbol::Me => ("me", None),
+        Symbol::You => ("you", None),
+        Symbol::Value(v) => ("v", Some(v as u32)),
+        Symbol::Number(n) => ("n", Some(n)),
+        Symbol::MarkShared(i) => ("ms", Some(i as u32)),
+        Symbol::MarkMine(k) => ("ma", Some(k as u32)),
+        Symbol::MarkTheirs(k) => ("mb", Some(k as u32)),
+        Symbol::MarkLoaded(k) => ("ml", Some(k as u32)),
+    }
+}
 
 fn symbol_text(alloc: Global, symbol: Symbol) -> Result<String, AllocError> {
-    match symbol {
-        Symbol::Null => format!(in alloc; "null"),
-        Symbol::Shared(i) => format!(in alloc; "s{i}"),
-        Symbol::Mine(k) => format!(in alloc; "a{k}"),
-        Symbol::Theirs(k) => format!(in alloc; "b{k}"),
-        Symbol::New => format!(in alloc; "new"),
-        Symbol::Bound(i) => format!(in alloc; "c{i}"),
-        Symbol::Loaded(k) => format!(in alloc; "l{k}"),
-        Symbol::Yes => format!(in alloc; "yes"),
-        Symbol::No => format!(in alloc; "no"),
-        Symbol::Nobody => format!(in alloc; "none"),
-        Symbol::Me => format!(in alloc; "me"),
-        Symbol::You => format!(in alloc; "you"),
-        Symbol::Value(v) => format!(in alloc; "v{v}"),
-        Symbol::Number(n) => format!(in alloc; "n{n}"),
-        Symbol::MarkShared(i) => format!(in alloc; "ms{i}"),
-        Symbol::MarkMine(k) => format!(in alloc; "ma{k}"),
-        Symbol::MarkTheirs(k) => format!(in alloc; "mb{k}"),
-        Symbol::MarkLoaded(k) => format!(in alloc; "ml{k}"),
+    match symbol_parts(symbol) {
+        (word, None) => String::from_str(alloc, word),
+        (word, Some(number)) => format!(in alloc; "{word}{number}"),
     }
 }
 
@@ -165,14 +174,10 @@ impl Asked for SetAt {
     }
 }
 
-fn answer(alloc: Global, file: &str, i: u64) -> Result<String, NoMemory> {
-    answered(alloc, file, &SetAt { i })
-}
-
-// The same of the stack with hazard pointers.
-fn answer_of_hazards(alloc: Global, i: u64) -> Result<String, NoMemory> {
-    let file = HAZARDS.concat(alloc)?;
-    answer(alloc, file.as_str(), i)
+// The set of an obligation of the file with these parts.
+fn answer(alloc: Global, parts: &[&str], i: u64) -> Result<String, NoMemory> {
+    let file = parts.concat(alloc)?;
+    answered(alloc, file.as_str(), &SetAt { i })
 }
 
 #[test]
@@ -185,29 +190,39 @@ fn sets_are_those_of_the_format(rt: HostRuntime) -> Result<(), NoMemory> {
         (2841, CLAIM),
     ] {
         let (i, text) = *row;
-        text_is(&rt, answer_of_hazards(rt.alloc(), i), text)?;
+        text_is(&rt, answer(rt.alloc(), &HAZARDS, i), text)?;
     }
-    text_is(&rt, answer(rt.alloc(), DEEP, 0), DEEP_START)?;
+    text_is(&rt, answer(rt.alloc(), &[DEEP], 0), DEEP_START)?;
     for row in MARKED_SETS {
         let (file, i, text) = *row;
-        text_is(&rt, answer(rt.alloc(), file, i), text)?;
+        text_is(&rt, answer(rt.alloc(), &[file], i), text)?;
+    }
+    Ok(())
+}
+
+// Whether the set of an obligation has this checksum.
+fn is_checksum(alloc: Global, parts: &[&str], i: u64, sum: u32) -> Result<bool, NoMemory> {
+    let text = answer(alloc, parts, i)?;
+    Ok(checksum(text.as_str()) == sum)
+}
+
+// Fails a test where the set of a row has another checksum.
+fn checksums_are(
+    rt: &impl Abort,
+    alloc: Global,
+    parts: &[&str],
+    rows: &[(u64, u32)],
+) -> Result<(), NoMemory> {
+    for row in rows {
+        let (i, sum) = *row;
+        assert!(rt; is_checksum(alloc, parts, i, sum)?, "{i}");
     }
     Ok(())
 }
 
 #[test]
 fn other_sets_have_their_checksums(rt: HostRuntime) -> Result<(), NoMemory> {
-    for row in OF_HAZARDS {
-        let (i, sum) = *row;
-        assert_eq!(rt; checksum(answer_of_hazards(rt.alloc(), i)?.as_str()), sum);
-    }
-    for row in OF_DEEP {
-        let (i, sum) = *row;
-        assert_eq!(rt; checksum(answer(rt.alloc(), DEEP, i)?.as_str()), sum);
-    }
-    for row in OF_DEEP_MARKED {
-        let (i, sum) = *row;
-        assert_eq!(rt; checksum(answer(rt.alloc(), DEEP_MARKED, i)?.as_str()), sum);
-    }
-    Ok(())
+    checksums_are(&rt, rt.alloc(), &HAZARDS, OF_HAZARDS)?;
+    checksums_are(&rt, rt.alloc(), &[DEEP], OF_DEEP)?;
+    checksums_are(&rt, rt.alloc(), &[DEEP_MARKED], OF_DEEP_MARKED)
 }

@@ -141,28 +141,49 @@ fn tree(alloc: Global, text: &str) -> Result<Tree, AllocError> {
     Ok(Tree { nodes })
 }
 
-// The verdict on a tree over five clauses, of which the fourth is empty.
-fn verdict(alloc: Global, nodes: &str) -> Result<Option<u64>, NoMemory> {
-    let set = set(alloc, MIXED, "0=1; 2!=3; 4=5; -; 0=1 or 6=7")?;
-    if !is_well_formed(&set) {
+// The verdict on a tree over a set.
+fn verdict_over(alloc: Global, set: &GroundSet, nodes: &str) -> Result<Option<u64>, NoMemory> {
+    if !is_well_formed(set) {
         return Err(NoMemory);
     }
-    closes(alloc, &set, &tree(alloc, nodes)?)
+    let tree = tree(alloc, nodes)?;
+    closes(alloc, set, &tree)
 }
+
+// Whether this is the verdict on a tree over five clauses, of which the fourth is empty.
+fn is_verdict(alloc: Global, nodes: &str, bad: Option<u64>) -> Result<bool, NoMemory> {
+    let set = set(alloc, MIXED, "0=1; 2!=3; 4=5; -; 0=1 or 6=7")?;
+    let verdict = verdict_over(alloc, &set, nodes);
+    drop(set);
+    Ok(verdict? == bad)
+}
+
+// Trees with their first bad nodes.
+const TREES: &[(&str, Option<u64>)] = &[
+    ("S0 S1 2,3", None),
+    ("S1 S0 3,2", None),
+    ("S3", None),
+    ("S2 4,5", None),
+    ("S4 S1 2,3 6,7", None),
+    ("", Some(0)),
+    ("4,5", Some(0)),
+    ("S0 S5", Some(1)),
+    ("S0 2,11", Some(1)),
+    ("S0 2,3", Some(1)),
+    ("S1 2,3", Some(1)),
+    ("S4 6,7", Some(1)),
+    ("S3 S3", Some(1)),
+    ("S0 S1", Some(2)),
+    ("S4 S1 2,3", Some(3)),
+    ("S4 S1 2,3 2,3", Some(3)),
+    ("S0 S1 2,3 2,3", Some(3)),
+];
 
 #[test]
 fn trees_close_or_have_a_first_bad_node(rt: HostRuntime) -> Result<(), NoMemory> {
-    for row in &[
-        ("S0 S1 2,3; S1 S0 3,2; S3; S2 4,5; S4 S1 2,3 6,7", None),
-        ("; 4,5", Some(0)),
-        ("S0 S5; S0 2,11; S0 2,3; S1 2,3; S4 6,7; S3 S3", Some(1)),
-        ("S0 S1", Some(2)),
-        ("S4 S1 2,3; S4 S1 2,3 2,3; S0 S1 2,3 2,3", Some(3)),
-    ] {
-        let (trees, bad) = *row;
-        for nodes in trees.split("; ") {
-            assert_eq!(rt; verdict(rt.alloc(), nodes)?, bad, "{nodes}");
-        }
+    for row in TREES {
+        let (nodes, bad) = *row;
+        assert!(rt; is_verdict(rt.alloc(), nodes, bad)?, "{nodes}");
     }
     Ok(())
 }
@@ -197,7 +218,7 @@ fn classes_are_a_model_or_not(rt: HostRuntime) -> Result<(), AllocError> {
         ("0 0 2 2 4 5 6 7 8 9", false, "a class is missing"),
     ] {
         let (classes, is, why) = *row;
-        assert_eq!(rt; are_a_model(rt.alloc(), classes)?, is, "{why}");
+        assert!(rt; are_a_model(rt.alloc(), classes)? == is, "{why}");
     }
     Ok(())
 }
@@ -222,7 +243,10 @@ fn sets_fit_or_not(rt: HostRuntime) -> Result<(), AllocError> {
         ("node:null node:shared.0 next.1", "0=1", false),
     ] {
         let (terms, literal, fit) = *row;
-        assert_eq!(rt; fits(rt.alloc(), terms, literal)?, fit, "{terms} {literal}");
+        assert!(rt;
+            fits(rt.alloc(), terms, literal)? == fit,
+            "{terms} {literal}"
+        );
     }
     Ok(())
 }
@@ -309,28 +333,27 @@ fn first_word(text: &str) -> &str {
     }
 }
 
-// The first set over these terms that is answered otherwise.
-fn other_answer(
-    alloc: Global,
-    terms: &str,
-    table: &[(&'static str, &'static str)],
-) -> Result<Option<&'static str>, NoMemory> {
-    for (rows, want) in table {
-        let answer = solved(alloc, terms, *rows)?;
-        if first_word(answer.as_str()) != *want {
-            return Ok(Some(*rows));
-        }
-    }
-    Ok(None)
+// Whether a set of these terms is answered so.
+fn is_solved(alloc: Global, terms: &str, rows: &str, want: &str) -> Result<bool, NoMemory> {
+    let answer = solved(alloc, terms, rows)?;
+    Ok(first_word(answer.as_str()) == want)
 }
+
+// Terms with sets over them, and how these are answered.
+const SOLVED: &[(&str, &[(&str, &str)])] = &[(NODES, SOLVED_NODES), (CONSTANTS, SOLVED_CONSTANTS)];
 
 #[test]
 fn sets_are_solved(rt: HostRuntime) -> Result<(), NoMemory> {
-    assert_eq!(rt; other_answer(rt.alloc(), NODES, SOLVED_NODES)?, None);
-    assert_eq!(rt;
-        other_answer(rt.alloc(), CONSTANTS, SOLVED_CONSTANTS)?,
-        None
-    );
+    for table in SOLVED {
+        let (terms, sets) = *table;
+        for set in sets {
+            let (rows, want) = *set;
+            assert!(rt;
+                is_solved(rt.alloc(), terms, rows, want)?,
+                "{rows} over {terms}"
+            );
+        }
+    }
     Ok(())
 }
 
