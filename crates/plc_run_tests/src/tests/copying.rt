@@ -1,12 +1,14 @@
 // Copies of memories and of locals are equal to what was copied, and go on apart from it.
 ghost use Rattle.plc_flow.specs.WellFormed.{FlowFits};
+ghost use Rattle.plc_run.specs.Position.{IsOfRun};
 
-use crate::tests::moves::{config_of, places_text};
+use crate::tests::moves::{places_text, started, take_all};
 use crate::tests::texts::text_is;
 use plc_base::NoMemory;
 use plc_check::Judged;
 use plc_flow::Flow;
 use plc_mem::{Locals, Memory};
+use plc_run::Config;
 use plc_testing::{loaded, put};
 use std::alloc::{AllocError, Global};
 
@@ -43,11 +45,15 @@ fn copies_text(alloc: Global, memory: &Memory) -> Result<String, NoMemory> {
     Ok(text?)
 }
 
+fn is_taken(memory: &mut Memory, t: u32) -> bool {
+    memory.take(t).is_some()
+}
+
 // Whether the locals of thread 1 are taken at first, again, and of a thread past the last; and what is left.
 fn taken_text(alloc: Global, memory: &mut Memory) -> Result<String, AllocError> {
-    let first = memory.take(1).is_some();
-    let again = memory.take(1).is_some();
-    let past = memory.take(2).is_some();
+    let first = is_taken(memory, 1);
+    let again = is_taken(memory, 1);
+    let past = is_taken(memory, 2);
     let places = places_text(alloc, memory)?;
     format!(in alloc; "{first} {again} {past} {places}")
 }
@@ -81,7 +87,10 @@ fn locals_text(alloc: Global, flow: &Flow, locals: Locals) -> Result<String, NoM
 }
 
 fn held_text(alloc: Global, flow: &Flow, memory: &Memory) -> Result<String, NoMemory> {
-    match memory.copy()?.take(1) {
+    let mut copy = memory.copy()?;
+    let locals = copy.take(1);
+    drop(copy);
+    match locals {
         Some(locals) => locals_text(alloc, flow, locals),
         None => Err(NoMemory),
     }
@@ -94,11 +103,20 @@ fn all_copies(alloc: Global, flow: &Flow, memory: &Memory) -> Result<String, NoM
     Ok(text)
 }
 
+// The copies after some moves.
+fn moved_copies(alloc: Global, judged: &Judged, config: &mut Config) -> Result<String, NoMemory>
+    requires fits { FlowFits judged.now.flow }
+    requires of_run { IsOfRun judged.now.flow judged.now.observer config.old }
+{
+    take_all(alloc, &judged.flow, &judged.observer, config, &[SHARED])?;
+    all_copies(alloc, &judged.flow, config.memory())
+}
+
 fn linked_copies(alloc: Global, judged: &Judged) -> Result<String, NoMemory>
     requires { FlowFits judged.now.flow }
 {
-    let config = config_of(alloc, &judged.flow, &judged.observer, SHARED)?;
-    let text = all_copies(alloc, &judged.flow, config.memory());
+    let mut config = started(alloc, &judged.flow, &judged.observer)?;
+    let text = moved_copies(alloc, judged, &mut config);
     drop(config);
     text
 }

@@ -169,7 +169,7 @@ fn drawn(alloc: Global, seed: u32) -> Result<String, AllocError> {
 
 // The drawn moves with the answers of a run in place of the model's.
 fn replayed(alloc: Global, moves: &str) -> Result<String, NoMemory> {
-    ran(alloc, FILE, MADE, moves)
+    ran(alloc, FILE, &[MADE], moves)
 }
 
 #[test]

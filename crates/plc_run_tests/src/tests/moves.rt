@@ -99,15 +99,15 @@ pub(crate) fn places_text(alloc: Global, memory: &Memory) -> Result<String, Allo
         let (name, place) = *row;
         if let Some(number) = memory.number(&place) {
             let doubt = if memory.valid(&place) { "" } else { "?" };
-            put(&mut text, format!(in alloc; "{name}={number}{doubt} "))?;
+            write!(text, "{name}={number}{doubt} ")?;
         }
     }
     for address in [1, 2, 3] {
         if memory.used(address) {
-            put(&mut text, format!(in alloc; "used {address} "))?;
+            write!(text, "used {address} ")?;
         }
         if memory.retired(address) {
-            put(&mut text, format!(in alloc; "retired {address} "))?;
+            write!(text, "retired {address} ")?;
         }
     }
     Ok(text)
@@ -142,7 +142,9 @@ fn why_text(
     requires of_run { IsOfRun flow.now observer.now config.now }
 {
     let m = move_of(alloc, line)?;
-    match config.refusal(flow, &m)? {
+    let cause = config.refusal(flow, &m);
+    drop(m);
+    match cause? {
         Some(cause) => Ok(format!(in alloc; "{cause:?}")?),
         None => Ok(String::from_str(alloc, "None")?),
     }
@@ -168,7 +170,9 @@ fn take_move(
     }
     let m = move_of(alloc, line)?;
     let before = config.history().len();
-    let answer = config.step(flow, observer, &m)?;
+    let answer = config.step(flow, observer, &m);
+    drop(m);
+    let answer = answer?;
     let events = config.history().get(before..).unwrap_or(&[]);
     Ok(moved_text(alloc, &answer, events)?)
 }
@@ -194,29 +198,60 @@ fn take_moves(
     Ok(text)
 }
 
-// The configuration that the moves lead to.
-pub(crate) fn config_of(
+// Takes the moves of some texts, whose answers nobody reads.
+pub(crate) fn take_all(
     alloc: Global,
     flow: &Flow,
     observer: &Observer,
-    moves: &str,
-) -> Result<Config, NoMemory>
+    config: &mut Config,
+    texts: &[&str],
+) -> Result<(), NoMemory>
+    requires of_run { IsOfRun flow.now observer.now config.old }
+    requires fits { FlowFits flow.now }
+    ensures { IsOfRun flow.now observer.now config.new }
+{
+    for moves in texts {
+        drop(take_moves(alloc, flow, observer, config, moves)?);
+    }
+    Ok(())
+}
+
+// The configuration of two threads that a run starts in.
+pub(crate) fn started(alloc: Global, flow: &Flow, observer: &Observer) -> Result<Config, NoMemory>
     requires fits { FlowFits flow.now }
     ensures { IfOk result (λ config. IsOfRun flow.now observer.now config) }
 {
-    let Ok(mut config) = Config::start(alloc, flow, observer, 2) else {
-        return Err(NoMemory);
-    };
-    let _answers = take_moves(alloc, flow, observer, &mut config, moves)?;
-    Ok(config)
+    match Config::start(alloc, flow, observer, 2) {
+        Ok(config) => Ok(config),
+        Err(_) => Err(NoMemory),
+    }
 }
 
 // The answers of moves after other moves.
-fn run_text(alloc: Global, judged: &Judged, before: &str, moves: &str) -> Result<String, NoMemory>
+fn answers_after(
+    alloc: Global,
+    judged: &Judged,
+    config: &mut Config,
+    before: &[&str],
+    moves: &str,
+) -> Result<String, NoMemory>
+    requires fits { FlowFits judged.now.flow }
+    requires of_run { IsOfRun judged.now.flow judged.now.observer config.old }
+{
+    take_all(alloc, &judged.flow, &judged.observer, config, before)?;
+    take_moves(alloc, &judged.flow, &judged.observer, config, moves)
+}
+
+fn run_text(
+    alloc: Global,
+    judged: &Judged,
+    before: &[&str],
+    moves: &str,
+) -> Result<String, NoMemory>
     requires { FlowFits judged.now.flow }
 {
-    let mut config = config_of(alloc, &judged.flow, &judged.observer, before)?;
-    let answers = take_moves(alloc, &judged.flow, &judged.observer, &mut config, moves);
+    let mut config = started(alloc, &judged.flow, &judged.observer)?;
+    let answers = answers_after(alloc, judged, &mut config, before, moves);
     drop(config);
     answers
 }
@@ -224,7 +259,7 @@ fn run_text(alloc: Global, judged: &Judged, before: &str, moves: &str) -> Result
 pub(crate) fn ran(
     alloc: Global,
     file: &str,
-    before: &str,
+    before: &[&str],
     moves: &str,
 ) -> Result<String, NoMemory> {
     let judged = loaded(alloc, file)?;
@@ -355,12 +390,11 @@ places => Top=0 p=1 r=1 1.next=0 used 1 retired 1
 fn rows_are_answered(
     rt: &impl Abort,
     alloc: Global,
-    before: [&str; 2],
+    before: &[&str],
     rows: &str,
 ) -> Result<(), NoMemory> {
-    let before = before.concat(alloc)?;
     for row in rows.split("# ") {
-        text_is(rt, ran(alloc, STACK, before.as_str(), row), row)?;
+        text_is(rt, ran(alloc, STACK, before, row), row)?;
     }
     Ok(())
 }
@@ -376,7 +410,7 @@ fn moves_have_their_answers(rt: HostRuntime) -> Result<(), NoMemory> {
         (PUT, "", PROTECT),
         (PUT, PROTECT, PROTECTED),
     ] {
-        rows_are_answered(&rt, rt.alloc(), [first, second], rows)?;
+        rows_are_answered(&rt, rt.alloc(), &[first, second], rows)?;
     }
     Ok(())
 }

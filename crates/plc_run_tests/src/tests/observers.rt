@@ -5,7 +5,6 @@ ghost use Rattle.plc_auto.specs.Table.{count_of};
 use crate::tests::texts::{row_is, text_is};
 use plc_auto::{EvKind, Observer};
 use plc_base::{FuncId, LocId, Mask};
-use plc_testing::put;
 use std::alloc::{AllocError, Global};
 
 const FIRST: FuncId = FuncId(1);
@@ -261,7 +260,7 @@ fn masks_text(alloc: Global, first: &Mask, second: &Mask) -> Result<String, Allo
     let bits = first.bits();
     let count = first.count();
     let within = first.within(second);
-    put(&mut text, format!(in alloc; "{bits} {count} {within}"))?;
+    write!(text, "{bits} {count} {within}")?;
     Ok(text)
 }
 

@@ -4,7 +4,7 @@ use crate::tests::moves::ran;
 use crate::tests::texts::{row_is, text_is};
 use plc_base::NoMemory;
 use plc_testing::put;
-use std::alloc::{AllocError, Global};
+use std::alloc::Global;
 
 // A statement as the one step of operation 2, whose parameters are 3 and 5. A `new` of it takes the address 1.
 fn statement_text(alloc: Global, statement: &str, before: &str) -> Result<String, NoMemory> {
@@ -13,10 +13,14 @@ fn statement_text(alloc: Global, statement: &str, before: &str) -> Result<String
          ghost stage {{ made, cut }}; ghost owner thread; op make() {{ Top := new; }} op drop() {{ retire(Top); }} \
          op it(x, y) {{ ptr p; {statement} }}"
     )?;
-    let address = if statement.contains("new") { " 1" } else { "" };
-    let before = format!(in alloc; "{before}start 0 2 3 5\n")?;
-    let step = format!(in alloc; "step 0 0{address}\nplaces\n")?;
-    let text = ran(alloc, file.as_str(), before.as_str(), step.as_str())?;
+    let step = if statement.contains("new") {
+        "step 0 0 1\nplaces\n"
+    } else {
+        "step 0 0\nplaces\n"
+    };
+    let text = ran(alloc, file.as_str(), &[before, "start 0 2 3 5\n"], step);
+    drop(file);
+    let text = text?;
     let (_, answer) = text.as_str().split_once(" => ").unwrap_or(("", "?"));
     Ok(String::from_str(alloc, answer)?)
 }
@@ -299,27 +303,32 @@ fn returns(alloc: Global, statement: &str) -> Result<String, NoMemory> {
     )?;
     let mut text = String::new(alloc);
     for before in ["", VALID, INVALID] {
-        let before = format!(in alloc; "{before}start 0 2\nstep 0 0\n")?;
-        put(
-            &mut text,
-            ran(alloc, file.as_str(), before.as_str(), "step 0 0"),
-        )?;
+        let before = [before, "start 0 2\nstep 0 0\n"];
+        put(&mut text, ran(alloc, file.as_str(), &before, "step 0 0"))?;
     }
     Ok(text)
 }
 
 // What the returns are to be: the same in each state.
-fn returns_of(alloc: Global, call: u32) -> Result<String, AllocError> {
-    let line = format!(in alloc; "step 0 0 => Done, 0 is back from {call}\n")?;
-    format!(in alloc; "{line}{line}{line}")
-}
+const FROM_PROTECT: &str = "step 0 0 => Done, 0 is back from 1
+step 0 0 => Done, 0 is back from 1
+step 0 0 => Done, 0 is back from 1
+";
+
+const FROM_ENTER: &str = "step 0 0 => Done, 0 is back from 2
+step 0 0 => Done, 0 is back from 2
+step 0 0 => Done, 0 is back from 2
+";
 
 #[test]
 fn calls_return(rt: HostRuntime) -> Result<(), NoMemory> {
-    let alloc = rt.alloc();
-    for (statement, call) in [("protect(Top);", 1), ("protect(null);", 1), ("enter();", 2)] {
-        let want = returns_of(alloc, call)?;
-        row_is(&rt, statement, returns(alloc, statement), want.as_str())?;
+    for row in &[
+        ("protect(Top);", FROM_PROTECT),
+        ("protect(null);", FROM_PROTECT),
+        ("enter();", FROM_ENTER),
+    ] {
+        let (statement, want) = *row;
+        row_is(&rt, statement, returns(rt.alloc(), statement), want)?;
     }
     Ok(())
 }

@@ -7,7 +7,6 @@ use crate::tests::texts::text_is;
 use plc_auto::{Event, Scheme};
 use plc_base::{FuncId, NoMemory};
 use plc_reclaim::{ByList, Leak, Reclaimer};
-use plc_testing::put;
 use std::alloc::Global;
 
 // Picks the addresses of a list one after the other, whatever it is handed.
@@ -81,7 +80,7 @@ fn picks(
         reclaimer.event(event_of(word))?;
         for _again in 0..2 {
             let address = reclaimer.pick().unwrap_or(0);
-            put(&mut text, format!(in alloc; " {address}"))?;
+            write!(text, " {address}")?;
         }
     }
     Ok(text)

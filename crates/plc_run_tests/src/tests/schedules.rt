@@ -12,7 +12,7 @@ fn entry_text(alloc: Global, entry: &Entry) -> Result<String, AllocError> {
             let op = str::from_utf8(op.as_slice()).unwrap_or("?");
             let mut text = format!(in alloc; "start {t} {op}")?;
             for arg in args.as_slice() {
-                put(&mut text, format!(in alloc; " {arg}"))?;
+                write!(text, " {arg}")?;
             }
             Ok(text)
         }

@@ -13,7 +13,7 @@ use plc_flow::{Flow, Step};
 use plc_infer::{InferFault, infer};
 use plc_lang::{Prim, Var, count_pointers};
 use plc_suggest::{Spot, SuggestFault, Suggestion, suggest};
-use plc_testing::{EPOCHS, HAZARDS, loaded, put};
+use plc_testing::{EPOCHS, HAZARDS, loaded};
 use std::alloc::{AllocError, Global};
 
 // The most primitives that a step may have, with the claims in front of them.
@@ -215,7 +215,9 @@ fn all_sets(alloc: Global, file: &str, spots: &[Spot]) -> Result<Vec<bool>, NoMe
     let mut typed = Vec::new(alloc);
     for set in 0..bit(count_of(spots)) {
         let some = chosen(alloc, spots, set)?;
-        typed.push(typable(alloc, file, &some)?)?;
+        let is_one = typable(alloc, file, &some);
+        drop(some);
+        typed.push(is_one?)?;
     }
     Ok(typed)
 }
@@ -284,7 +286,7 @@ fn tried_text(alloc: Global, typed: &[bool], count: u32) -> Result<String, Alloc
     let mut text = format!(in alloc; "{count} places, {least} can do;")?;
     for number in 0..count {
         if has(set, number) {
-            put(&mut text, format!(in alloc; " {number}"))?;
+            write!(text, " {number}")?;
         }
     }
     if parts(typed, set) != 1 {
@@ -305,7 +307,7 @@ fn numbers_text(alloc: Global, all: &[Spot], some: &[Spot]) -> Result<String, Al
     let mut number = 0u32;
     for spot in all {
         if some.contains(spot) {
-            put(&mut text, format!(in alloc; " {number}"))?;
+            write!(text, " {number}")?;
         }
         number = number.wrapping_add(1);
     }
@@ -353,11 +355,12 @@ fn without_claims(alloc: Global, file: &str) -> Result<String, AllocError> {
     let mut is_first = true;
     for piece in file.split("active ") {
         let (name, rest) = piece.split_once(";").unwrap_or((piece, ""));
-        if is_first || name.contains(")") {
-            text.push_str(piece)?;
+        let kept = if is_first || name.contains(")") {
+            piece
         } else {
-            text.push_str(rest)?;
-        }
+            rest
+        };
+        text.push_str(kept)?;
         is_first = false;
     }
     Ok(text)
@@ -397,7 +400,9 @@ fn spared_text(alloc: Global, file: &str, spots: &[Spot]) -> Result<String, NoMe
 // The same for a text whose claims are taken out.
 fn replaced(alloc: Global, pieces: &[&str]) -> Result<String, NoMemory> {
     let text = pieces.concat(alloc)?;
-    let file = without_claims(alloc, text.as_str())?;
+    let file = without_claims(alloc, text.as_str());
+    drop(text);
+    let file = file?;
     match suggested(alloc, file.as_str())? {
         Some(spots) => spared_text(alloc, file.as_str(), &spots),
         None => Ok(String::from_str(alloc, "none")?),

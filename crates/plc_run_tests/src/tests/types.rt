@@ -11,6 +11,7 @@ use plc_lang::{Arg, GhostVal, Num, Prim, Rel, Var};
 use plc_type::{Env, Guar, PtrType, below, env_below, env_join, join};
 use plc_xfer::{TypeFault, apply, condition, interfere};
 use std::alloc::{AllocError, Global};
+use std::process::Abort;
 
 fn typed(g: Guar, digits: &str) -> PtrType {
     PtrType {
@@ -119,17 +120,17 @@ ALS ALS0 => ALS0 below
 ALS0 -0 => -0 below
 ";
 
+// What the two types of a text join to.
+fn join_of(alloc: Global, types: &str) -> Result<String, AllocError> {
+    let (a, b) = types.split_once(" ").unwrap_or((types, ""));
+    join_text(alloc, &type_of(a), &type_of(b))
+}
+
 #[test]
 fn types_are_ordered(rt: HostRuntime) -> Result<(), AllocError> {
     for row in JOINS.lines() {
         let (types, want) = row.split_once(" => ").unwrap_or((row, "?"));
-        let (a, b) = types.split_once(" ").unwrap_or((types, ""));
-        row_is(
-            &rt,
-            types,
-            join_text(rt.alloc(), &type_of(a), &type_of(b)),
-            want,
-        )?;
+        row_is(&rt, types, join_of(rt.alloc(), types), want)?;
     }
     Ok(())
 }
@@ -142,8 +143,13 @@ fn bottom_text(alloc: Global) -> Result<String, NoMemory> {
 
 // A copy of the environment of an entry.
 fn entry_text(alloc: Global) -> Result<String, NoMemory> {
-    let env = Env::entry(alloc, 2, 3, &Mask::full(2))?.copy(alloc)?;
-    env_text(alloc, &env)
+    let entry = Env::entry(alloc, 2, 3, &Mask::full(2))?;
+    let copy = entry.copy(alloc);
+    drop(entry);
+    let copy = copy?;
+    let text = env_text(alloc, &copy);
+    drop(copy);
+    text
 }
 
 // Whether a join changes the first of two environments for the same pointers.
@@ -301,12 +307,24 @@ const EFFECTS: &[(Prim, &str)] = &[
     ),
 ];
 
+// Fails a test where a primitive leaves other types.
+fn effect_is(
+    rt: &impl Abort,
+    prim: &Prim,
+    have: Result<String, NoMemory>,
+    want: &str,
+) -> Result<(), NoMemory> {
+    let have = have?;
+    assert_eq!(rt; have.as_str(), want, "{prim:?}");
+    Ok(())
+}
+
 #[test]
 fn primitives_have_their_effects(rt: HostRuntime) -> Result<(), NoMemory> {
     for row in EFFECTS {
         let (prim, want) = *row;
-        let have = applied(rt.alloc(), &Observer::Plain, "-01 S01 ALS0", &prim)?;
-        assert_eq!(rt; have.as_str(), want, "{prim:?}");
+        let have = applied(rt.alloc(), &Observer::Plain, "-01 S01 ALS0", &prim);
+        effect_is(&rt, &prim, have, want)?;
     }
     Ok(())
 }
@@ -400,8 +418,8 @@ const CALLS: &[(Observer, Prim, &str)] = &[
 fn calls_have_their_effects(rt: HostRuntime) -> Result<(), NoMemory> {
     for row in CALLS {
         let (observer, prim, want) = *row;
-        let have = applied(rt.alloc(), &observer, "-0123456 AS2 ALS0", &prim)?;
-        assert_eq!(rt; have.as_str(), want, "{prim:?}");
+        let have = applied(rt.alloc(), &observer, "-0123456 AS2 ALS0", &prim);
+        effect_is(&rt, &prim, have, want)?;
     }
     Ok(())
 }

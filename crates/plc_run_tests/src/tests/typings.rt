@@ -2,6 +2,7 @@
 ghost use Rattle.plc_lang.specs.Fit.{FileFits};
 ghost use Rattle.plc_flow.specs.WellFormed.{FlowFits};
 
+use crate::tests::texts::row_is;
 use crate::tests::types::push_env;
 use plc_base::NoMemory;
 use plc_check::Judged;
@@ -27,7 +28,7 @@ fn inferred_in(alloc: Global, judged: &Judged) -> Result<String, AllocError>
 {
     match infer(alloc, &judged.flow, &judged.observer) {
         Ok(typing) => typing_text(alloc, typing.env.as_slice()),
-        Err(fault) => format!(in alloc; "{fault:?}"),
+        Err(fault) => format!(in alloc; "{fault:?}\n"),
     }
 }
 
@@ -72,11 +73,7 @@ fn each_point_has_its_strongest_types(rt: HostRuntime) -> Result<(), NoMemory> {
     for row in TYPINGS.split("# ") {
         if !row.is_empty() {
             let (file, want) = row.split_once("\n").unwrap_or((row, "?"));
-            assert_eq!(rt;
-                inferred(rt.alloc(), file)?.as_str().trim_end(),
-                want.trim_end(),
-                "{file}"
-            );
+            row_is(&rt, file, inferred(rt.alloc(), file), want)?;
         }
     }
     Ok(())
