@@ -10,3 +10,4 @@ mod outside;
 mod program;
 mod reclaimers;
 mod rows;
+mod texts;

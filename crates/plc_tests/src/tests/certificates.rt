@@ -1,42 +1,44 @@
 // Certificates: what `certify` writes is verified, and a certificate that is changed in one place has the answer
 // that is due. A certificate is any valid one, so each change puts whole parts in the place of its own.
-use crate::tests::files::{put, text_of};
-use crate::tests::program::{answered, words_of};
-use plc_cli::MemFiles;
+use crate::tests::files::text_of;
+use crate::tests::program::{answer_over, text_over};
+use crate::tests::texts::{halves, note, on_one_line, text_is};
 use std::alloc::{AllocError, Global};
 
-// What is answered to words over `file` and `certificate`.
-fn answer(alloc: Global, words: &str, file: &str, certificate: &str) -> Result<String, AllocError> {
-    let mut files = Vec::new(alloc);
-    for (name, text) in [("file", file), ("certificate", certificate)] {
-        put(
-            alloc,
-            &mut files,
-            name,
-            Vec::from_slice(alloc, text.as_bytes())?,
-        )?;
-    }
-    let mut files = MemFiles::new(alloc, files, Vec::new(alloc));
-    let words = words_of(alloc, words)?;
-    answered(alloc, &mut files, &words)
+// The certificate of a file's text, and no text where it has none.
+fn certificate(alloc: Global, file: &str) -> Result<String, AllocError> {
+    text_over(alloc, &[("file", file.as_bytes())], "certify file", "0\n")
 }
 
-// The certificate of a file, and no text where it has none.
+// The same of a file by its name.
 fn certificate_of(alloc: Global, name: &str) -> Result<String, AllocError> {
     let file = text_of(alloc, name)?;
-    let text = answer(alloc, "certify file", file.as_str(), "")?;
-    String::from_str(alloc, text.as_str().strip_prefix("0\n").unwrap_or(""))
+    certificate(alloc, file.as_str())
+}
+
+// What is answered to a certificate for a file's text.
+fn judged(alloc: Global, file: &str, certificate: &str) -> Result<String, AllocError> {
+    let list = [
+        ("file", file.as_bytes()),
+        ("certificate", certificate.as_bytes()),
+    ];
+    answer_over(alloc, &list, "verify file certificate")
 }
 
 // What is answered to a certificate for a file.
 fn verified(alloc: Global, name: &str, certificate: &str) -> Result<String, AllocError> {
     let file = text_of(alloc, name)?;
-    answer(alloc, "verify file certificate", file.as_str(), certificate)
+    judged(alloc, file.as_str(), certificate)
 }
 
-// What is answered to the certificate of a file for that file.
-fn verified_own(alloc: Global, name: &str) -> Result<String, AllocError> {
-    let certificate = certificate_of(alloc, name)?;
+// A line without its end, and no text where it has none.
+fn line_of(alloc: Global, line: &str) -> Result<String, AllocError> {
+    String::from_str(alloc, line.strip_suffix("\n").unwrap_or(""))
+}
+
+// What is answered for a file to the certificate of another one.
+fn verified_of(alloc: Global, name: &str, other: &str) -> Result<String, AllocError> {
+    let certificate = certificate_of(alloc, other)?;
     verified(alloc, name, certificate.as_str())
 }
 
@@ -67,7 +69,7 @@ fn what_is_certified_is_verified(rt: HostRuntime) -> Result<(), AllocError> {
         ),
     ] {
         let (name, want) = *row;
-        assert_eq!(rt; verified_own(rt.alloc(), name)?.as_str(), want, "{name}");
+        text_is(&rt, verified_of(rt.alloc(), name, name), want, name)?;
     }
     Ok(())
 }
@@ -112,20 +114,25 @@ const WRITTEN: &[(&str, &str, &str)] = &[
     ("stray", "{", "2\nrefused byte at 13\n"),
 ];
 
+// The one line of a file's certificate, and no text where it doesn't end.
+fn certificate_line(alloc: Global, name: &str) -> Result<String, AllocError> {
+    let certificate = certificate_of(alloc, name)?;
+    line_of(alloc, certificate.as_str())
+}
+
 #[test]
 fn certificates_from_elsewhere_are_judged(rt: HostRuntime) -> Result<(), AllocError> {
     for row in WRITTEN {
         let (name, certificate, want) = *row;
-        assert_eq!(rt;
-            verified(rt.alloc(), name, certificate)?.as_str(),
-            want,
-            "{name}"
-        );
+        text_is(&rt, verified(rt.alloc(), name, certificate), want, name)?;
     }
     // There is no other one with the strongest typing.
-    let certificate = certificate_of(rt.alloc(), "publish")?;
-    assert_eq!(rt; certificate.as_str().strip_suffix("\n"), Some(PUBLISHED));
-    Ok(())
+    text_is(
+        &rt,
+        certificate_line(rt.alloc(), "publish"),
+        PUBLISHED,
+        "publish",
+    )
 }
 
 // Changes of any certificate: the first place where a text stands has another one; then the answer.
@@ -171,38 +178,77 @@ fn with_text(
 // What is answered to a certificate for a file, its status before the rest.
 fn verified_line(alloc: Global, name: &str, certificate: &str) -> Result<String, AllocError> {
     let answer = verified(alloc, name, certificate)?;
-    let (status, line) = answer.as_str().split_once("\n").unwrap_or(("", ""));
-    format!(in alloc; "{status} {line}")
+    on_one_line(alloc, answer.as_str())
 }
 
-// The answer to a certificate that is changed by a row, where it isn't the row's.
-fn wrong_text(
+// What is answered to a certificate with another text in the place of one.
+fn verified_text(
     alloc: Global,
     name: &str,
     certificate: &str,
-    row: &str,
+    found: &str,
+    text: &str,
 ) -> Result<String, AllocError> {
-    let (found, rest) = row.split_once(" => ").unwrap_or((row, ""));
-    let (text, want) = rest.split_once(" => ").unwrap_or((rest, ""));
     let changed = with_text(alloc, certificate, found, text)?;
-    let have = verified_line(alloc, name, changed.as_str())?;
-    if have.as_str().strip_suffix("\n") == Some(want) {
-        Ok(String::new(alloc))
-    } else {
-        Ok(have)
+    verified_line(alloc, name, changed.as_str())
+}
+
+// Notes the answer to a certificate that is changed by a row, where it isn't the row's.
+fn note_text(
+    alloc: Global,
+    wrong: &mut String,
+    name: &str,
+    certificate: &str,
+    row: &str,
+) -> Result<(), AllocError> {
+    let (found, rest) = halves(row, " => ");
+    let (text, want) = halves(rest, " => ");
+    let have = verified_text(alloc, name, certificate, found, text)?;
+    note(
+        wrong,
+        row,
+        have.as_str().strip_suffix("\n").unwrap_or(""),
+        want,
+    )
+}
+
+// The same of several rows.
+fn note_texts(
+    alloc: Global,
+    wrong: &mut String,
+    name: &str,
+    certificate: &str,
+    rows: &str,
+) -> Result<(), AllocError> {
+    for row in rows.lines() {
+        note_text(alloc, wrong, name, certificate, row)?;
     }
+    Ok(())
+}
+
+// Those that are for any certificate, and others.
+fn note_texts_of(
+    alloc: Global,
+    wrong: &mut String,
+    name: &str,
+    changes: &str,
+) -> Result<(), AllocError> {
+    let certificate = certificate_of(alloc, name)?;
+    note_texts(alloc, wrong, name, certificate.as_str(), ANY_CHANGES)?;
+    note_texts(alloc, wrong, name, certificate.as_str(), changes)
+}
+
+// The wrong answers to the certificate of a file with other texts.
+fn wrong_texts(alloc: Global, name: &str, changes: &str) -> Result<String, AllocError> {
+    let mut wrong = String::new(alloc);
+    note_texts_of(alloc, &mut wrong, name, changes)?;
+    Ok(wrong)
 }
 
 #[test]
 fn a_certificate_with_another_text_has_its_answer(rt: HostRuntime) -> Result<(), AllocError> {
     for (name, changes) in [("hazards", TEXT_CHANGES), ("marked-shared", MARKED_CHANGES)] {
-        let certificate = certificate_of(rt.alloc(), name)?;
-        for rows in [ANY_CHANGES, changes] {
-            for row in rows.lines() {
-                let wrong = wrong_text(rt.alloc(), name, certificate.as_str(), row)?;
-                assert_eq!(rt; wrong.as_str(), "", "{row}");
-            }
-        }
+        text_is(&rt, wrong_texts(rt.alloc(), name, changes), "", name)?;
     }
     Ok(())
 }
@@ -232,6 +278,22 @@ const ENV_CHANGES: &[(usize, &str, &str)] = &[
 // What stands between two environments of operations with pointer locals, with the brackets on either side.
 const BETWEEN: &str = "]]]],[[";
 
+// Writes a certificate with this environment at a point.
+fn push_envs(
+    out: &mut String,
+    certificate: &str,
+    point: usize,
+    env: &str,
+) -> Result<(), AllocError> {
+    for (i, own) in certificate.split(BETWEEN).enumerate() {
+        if i > 0 {
+            out.push_str(BETWEEN)?;
+        }
+        out.push_str(if i == point { env } else { own })?;
+    }
+    Ok(())
+}
+
 fn with_env(
     alloc: Global,
     certificate: &str,
@@ -239,12 +301,7 @@ fn with_env(
     env: &str,
 ) -> Result<String, AllocError> {
     let mut out = String::new(alloc);
-    for (i, own) in certificate.split(BETWEEN).enumerate() {
-        if i > 0 {
-            out.push_str(BETWEEN)?;
-        }
-        out.push_str(if i == point { env } else { own })?;
-    }
+    push_envs(&mut out, certificate, point, env)?;
     Ok(out)
 }
 
@@ -258,45 +315,97 @@ fn verified_env(
     verified_line(alloc, "hazards", changed.as_str())
 }
 
-#[test]
-fn a_certificate_with_another_environment_has_its_answer(
-    rt: HostRuntime,
+fn note_env(
+    alloc: Global,
+    wrong: &mut String,
+    certificate: &str,
+    point: usize,
+    env: &str,
+    want: &str,
 ) -> Result<(), AllocError> {
-    let certificate = certificate_of(rt.alloc(), "hazards")?;
+    let have = verified_env(alloc, certificate, point, env)?;
+    note(wrong, env, have.as_str(), want)
+}
+
+fn note_envs(alloc: Global, wrong: &mut String, certificate: &str) -> Result<(), AllocError> {
     for row in ENV_CHANGES {
         let (point, env, want) = *row;
-        let have = verified_env(rt.alloc(), certificate.as_str(), point, env)?;
-        assert_eq!(rt; have.as_str(), want);
+        note_env(alloc, wrong, certificate, point, env, want)?;
     }
     Ok(())
 }
 
-// A certificate whose first tree has another first leaf, of one term twice, and the answer that is due: the node
-// of that leaf, before which there are splits alone.
-fn with_leaf(alloc: Global, certificate: &str) -> Result<(String, String), AllocError> {
-    let (envs, trees) = certificate.split_once("\"trees\":[[").unwrap_or(("", ""));
-    let (splits, rest) = trees.split_once("[1,").unwrap_or(("", ""));
-    let (_, after) = rest.split_once("]").unwrap_or(("", ""));
+fn note_envs_of(alloc: Global, wrong: &mut String, name: &str) -> Result<(), AllocError> {
+    let certificate = certificate_of(alloc, name)?;
+    note_envs(alloc, wrong, certificate.as_str())
+}
+
+// The wrong answers to the certificate of `hazards` with other environments.
+fn wrong_envs(alloc: Global) -> Result<String, AllocError> {
+    let mut wrong = String::new(alloc);
+    note_envs_of(alloc, &mut wrong, "hazards")?;
+    Ok(wrong)
+}
+
+#[test]
+fn a_certificate_with_another_environment_has_its_answer(
+    rt: HostRuntime,
+) -> Result<(), AllocError> {
+    text_is(&rt, wrong_envs(rt.alloc()), "", "hazards")
+}
+
+// What stands before the first tree of a certificate, what stands there before the first leaf, and what stands after
+// that leaf.
+fn around_leaf(certificate: &str) -> (&str, &str, &str) {
+    let (envs, trees) = halves(certificate, "\"trees\":[[");
+    let (splits, rest) = halves(trees, "[1,");
+    let (_, after) = halves(rest, "]");
+    (envs, splits, after)
+}
+
+// A certificate whose first tree has another first leaf, of one term twice.
+fn with_leaf(alloc: Global, certificate: &str) -> Result<String, AllocError> {
+    let (envs, splits, after) = around_leaf(certificate);
+    format!(in alloc; "{envs}\"trees\":[[{splits}[1,0,0]{after}")
+}
+
+// The answer that is due to it: the node of that leaf, before which there are splits alone.
+fn due_to_leaf(alloc: Global, certificate: &str) -> Result<String, AllocError> {
+    let (_, splits, _) = around_leaf(certificate);
     let nodes = splits.matches("[0,").count();
-    let changed = format!(in alloc; "{envs}\"trees\":[[{splits}[1,0,0]{after}")?;
-    Ok((
-        changed,
-        format!(in alloc; "1\ninvalid tree 0 node {nodes}\n")?,
-    ))
+    format!(in alloc; "1\ninvalid tree 0 node {nodes}\n")
+}
+
+fn verified_leaf(alloc: Global, certificate: &str) -> Result<String, AllocError> {
+    let changed = with_leaf(alloc, certificate)?;
+    verified(alloc, "hazards", changed.as_str())
+}
+
+fn note_leaf(alloc: Global, wrong: &mut String, certificate: &str) -> Result<(), AllocError> {
+    let have = verified_leaf(alloc, certificate)?;
+    let want = due_to_leaf(alloc, certificate)?;
+    note(wrong, "leaf", have.as_str(), want.as_str())
+}
+
+fn note_leaf_of(alloc: Global, wrong: &mut String, name: &str) -> Result<(), AllocError> {
+    let certificate = certificate_of(alloc, name)?;
+    note_leaf(alloc, wrong, certificate.as_str())
+}
+
+// What is answered to the certificate of `hazards` with that leaf, where it isn't what is due.
+fn wrong_leaf(alloc: Global) -> Result<String, AllocError> {
+    let mut wrong = String::new(alloc);
+    note_leaf_of(alloc, &mut wrong, "hazards")?;
+    Ok(wrong)
 }
 
 #[test]
 fn leaves_and_certificates_of_others_are_told(rt: HostRuntime) -> Result<(), AllocError> {
-    let certificate = certificate_of(rt.alloc(), "hazards")?;
-    let (changed, want) = with_leaf(rt.alloc(), certificate.as_str())?;
-    assert_eq!(rt;
-        verified(rt.alloc(), "hazards", changed.as_str())?.as_str(),
-        want.as_str()
-    );
-    let other = certificate_of(rt.alloc(), "epochs-held")?;
-    assert_eq!(rt;
-        verified(rt.alloc(), "hazards", other.as_str())?.as_str(),
-        "1\ninvalid envs 35 37\n"
-    );
-    Ok(())
+    text_is(&rt, wrong_leaf(rt.alloc()), "", "leaf")?;
+    text_is(
+        &rt,
+        verified_of(rt.alloc(), "hazards", "epochs-held"),
+        "1\ninvalid envs 35 37\n",
+        "epochs-held",
+    )
 }

@@ -2,11 +2,12 @@
 // the status is 5 and a part of the answer was written. Files that never fail and an output with a fixed room
 // answer so too.
 use crate::tests::certificates::PUBLISHED;
-use crate::tests::files::{Entries, FILES, SCHEDULES, put, put_pieces, put_sections, put_stacks};
-use crate::tests::program::words_of;
+use crate::tests::files::{Entries, put_copy, put_given};
+use crate::tests::program::{answered_failing, words_of};
 use crate::tests::rows::{CHECKED, REPLAYED, SUGGESTED};
+use crate::tests::texts::{halves, note, text_is, told};
 use plc_base::NoMemory;
-use plc_cli::{FailSink, Files, MemFiles, Sink, run_with_own};
+use plc_cli::{Files, MemFiles, run_with_own};
 use plc_outside::{FixedSink, HonestFiles};
 use std::alloc::{AllocError, Global};
 
@@ -56,7 +57,7 @@ fn wanted(words: &str) -> &'static str {
 
 // What is due where an output takes so many bytes of an answer: all of it, or the bytes with status 5.
 fn due(alloc: Global, answer: &str, taken: usize) -> Result<String, AllocError> {
-    let (_, text) = answer.split_once("\n").unwrap_or(("", ""));
+    let (_, text) = halves(answer, "\n");
     match text.as_bytes().get(..taken) {
         Some(part) if taken < text.len() => {
             format!(in alloc; "5\n{}", str::from_utf8(part).unwrap_or("?"))
@@ -65,55 +66,69 @@ fn due(alloc: Global, answer: &str, taken: usize) -> Result<String, AllocError> 
     }
 }
 
+fn put_all(alloc: Global, files: &mut Entries) -> Result<(), AllocError> {
+    put_given(alloc, files)?;
+    put_copy(alloc, files, "certificate", PUBLISHED.as_bytes())?;
+    put_copy(alloc, files, "claims", CLAIMS.as_bytes())
+}
+
 fn entries(alloc: Global) -> Result<Entries, AllocError> {
     let mut files = Vec::new(alloc);
-    put_sections(alloc, &mut files, FILES)?;
-    put_stacks(alloc, &mut files)?;
-    put_pieces(alloc, &mut files, SCHEDULES)?;
-    for (name, text) in [("certificate", PUBLISHED), ("claims", CLAIMS)] {
-        let bytes = Vec::from_slice(alloc, text.as_bytes())?;
-        put(alloc, &mut files, name, bytes)?;
-    }
+    put_all(alloc, &mut files)?;
     Ok(files)
 }
 
-fn status<F: Files, S: Sink>(
-    alloc: Global,
-    words: &str,
-    files: &mut F,
-    out: &mut S,
-) -> Result<u8, AllocError> {
-    let words = words_of(alloc, words)?;
-    Ok(run_with_own(alloc, &words, files, out))
+fn files_failing(alloc: Global, read: u64) -> Result<MemFiles, AllocError> {
+    let failing = vec![in alloc; read]?;
+    Ok(MemFiles::new(alloc, entries(alloc)?, failing))
 }
 
 // The status and the text where one call of `read` fails, and one of `put`, of which each takes so many bytes; the
 // calls are counted from 1.
-fn answered_failing(
+fn answer_failing(
     alloc: Global,
     words: &str,
     read: u64,
     put: u64,
     most: usize,
 ) -> Result<String, AllocError> {
-    let mut files = MemFiles::new(alloc, entries(alloc)?, vec![in alloc; read]?);
-    let mut out = FailSink::new(alloc, most, vec![in alloc; put]?);
-    let status = status(alloc, words, &mut files, &mut out)?;
-    let text = str::from_utf8(out.written()).unwrap_or("?");
-    format!(in alloc; "{status}\n{text}")
+    let words = words_of(alloc, words)?;
+    let mut files = files_failing(alloc, read)?;
+    answered_failing(alloc, &mut files, &words, most, put)
+}
+
+// Notes the answer where a read fails and it isn't the one that is due.
+fn note_read(
+    alloc: Global,
+    wrong: &mut String,
+    words: &str,
+    read: u64,
+    most: usize,
+) -> Result<(), AllocError> {
+    let have = answer_failing(alloc, words, read, 0, most)?;
+    note(wrong, words, have.as_str(), "4\nread failed\n")
 }
 
 // The answers that aren't due where each read fails in its turn.
 fn wrong_reads(alloc: Global, words: &str, reads: u64, most: usize) -> Result<String, AllocError> {
     let mut wrong = String::new(alloc);
     for n in 0..reads {
-        let read = n.wrapping_add(1);
-        let have = answered_failing(alloc, words, read, 0, most)?;
-        if have.as_str() != "4\nread failed\n" {
-            wrong.push_str(have.as_str())?;
-        }
+        note_read(alloc, &mut wrong, words, n.wrapping_add(1), most)?;
     }
     Ok(wrong)
+}
+
+// Notes the answer where a call of `put` fails after so many and it isn't the one that is due.
+fn note_write(
+    alloc: Global,
+    wrong: &mut String,
+    words: &str,
+    most: usize,
+    n: usize,
+) -> Result<(), AllocError> {
+    let have = answer_failing(alloc, words, 0, (n as u64).wrapping_add(1), most)?;
+    let want = due(alloc, wanted(words), most.wrapping_mul(n))?;
+    note(wrong, words, have.as_str(), want.as_str())
 }
 
 // The same where each call of `put` fails in its turn, the last of which isn't needed.
@@ -125,12 +140,7 @@ fn wrong_writes(
 ) -> Result<String, AllocError> {
     let mut wrong = String::new(alloc);
     for n in 0..writes {
-        let put = (n as u64).wrapping_add(1);
-        let have = answered_failing(alloc, words, 0, put, most)?;
-        let want = due(alloc, wanted(words), most.wrapping_mul(n))?;
-        if have.as_str() != want.as_str() {
-            wrong.push_str(have.as_str())?;
-        }
+        note_write(alloc, &mut wrong, words, most, n)?;
     }
     Ok(wrong)
 }
@@ -140,33 +150,62 @@ fn each_call_of_the_outside_fails_in_turn(rt: HostRuntime) -> Result<(), AllocEr
     let alloc = rt.alloc();
     for row in COMMANDS {
         let (words, reads, most, writes) = *row;
-        assert_eq!(rt; wrong_reads(alloc, words, reads, most)?.as_str(), "");
-        assert_eq!(rt; wrong_writes(alloc, words, most, writes)?.as_str(), "");
+        text_is(&rt, wrong_reads(alloc, words, reads, most), "", words)?;
+        text_is(&rt, wrong_writes(alloc, words, most, writes), "", words)?;
     }
     Ok(())
 }
 
-// The status and the text over files that never fail, and an output with so much room.
-fn answered_honestly(alloc: Global, words: &str, room: usize) -> Result<String, NoMemory> {
-    let mut files = HonestFiles::new(alloc, entries(alloc)?);
+// The status and the text in an output with so much room.
+fn answered_fixed<F: Files>(
+    alloc: Global,
+    files: &mut F,
+    words: &[String],
+    room: usize,
+) -> Result<String, NoMemory> {
     let mut out = FixedSink::new(alloc, room)?;
-    let status = status(alloc, words, &mut files, &mut out)?;
-    let text = str::from_utf8(out.written()).unwrap_or("?");
-    Ok(format!(in alloc; "{status}\n{text}")?)
+    let status = run_with_own(alloc, words, files, &mut out);
+    match told(alloc, status, out.written()) {
+        Ok(text) => Ok(text),
+        Err(AllocError) => Err(NoMemory),
+    }
+}
+
+// The same over files that never fail.
+fn answered_honestly(alloc: Global, words: &str, room: usize) -> Result<String, NoMemory> {
+    let words = words_of(alloc, words)?;
+    let mut files = HonestFiles::new(alloc, entries(alloc)?);
+    answered_fixed(alloc, &mut files, &words, room)
+}
+
+fn note_room(
+    alloc: Global,
+    wrong: &mut String,
+    words: &str,
+    room: usize,
+    want: &str,
+) -> Result<(), NoMemory> {
+    let have = answered_honestly(alloc, words, room)?;
+    Ok(note(wrong, words, have.as_str(), want)?)
+}
+
+// What is answered to a check with so much room, where it isn't what is due.
+fn wrong_room(alloc: Global, room: usize) -> Result<String, NoMemory> {
+    let want = due(alloc, wanted("check hazards"), room)?;
+    let mut wrong = String::new(alloc);
+    note_room(alloc, &mut wrong, "check hazards", room, want.as_str())?;
+    Ok(wrong)
 }
 
 #[test]
 fn a_fixed_room_takes_all_or_a_part(rt: HostRuntime) -> Result<(), NoMemory> {
-    let alloc = rt.alloc();
     for room in [1000, 100, 1, 0] {
-        assert_eq!(rt;
-            answered_honestly(alloc, "check hazards", room)?.as_str(),
-            due(alloc, wanted("check hazards"), room)?.as_str()
-        );
+        text_is(&rt, wrong_room(rt.alloc(), room), "", "check hazards")?;
     }
-    assert_eq!(rt;
-        answered_honestly(alloc, "check absent", 100)?.as_str(),
-        "2\nrefused syntax token 0 line 1\n"
-    );
-    Ok(())
+    text_is(
+        &rt,
+        answered_honestly(rt.alloc(), "check absent", 100),
+        "2\nrefused syntax token 0 line 1\n",
+        "check absent",
+    )
 }

@@ -1,5 +1,6 @@
 // Files and schedules. A file is a section of a text: its name stands after `#`, its lines are the file. A schedule is
 // a name and the pieces of its text. Some files differ from others in a few lines, and some are made.
+use plc_cli::MemFiles;
 use plc_testing::{EPOCHS, HAZARDS};
 use std::alloc::{AllocError, Global};
 
@@ -443,12 +444,18 @@ pub(crate) const SCHEDULES: &[(&str, &[&str])] = &[
 
 // A node is put, taken and freed again and again, each time at the same address: nearly as many lines as a
 // schedule may have, so that a free which costs the length of the history would not end in time.
-fn reuses(alloc: Global) -> Result<Vec<u8>, AllocError> {
-    let mut text = String::from_str(alloc, "threads 1\n")?;
+fn push_reuses(text: &mut String) -> Result<(), AllocError> {
+    text.push_str("threads 1\n")?;
     for _ in 0..7_692 {
         text.push_str(PUT_AND_TAKE)?;
         text.push_str(FREED)?;
     }
+    Ok(())
+}
+
+fn reuses(alloc: Global) -> Result<Vec<u8>, AllocError> {
+    let mut text = String::new(alloc);
+    push_reuses(&mut text)?;
     Ok(text.into_bytes())
 }
 
@@ -467,6 +474,33 @@ pub(crate) fn put(
     Ok(())
 }
 
+// The same with a copy of these bytes.
+pub(crate) fn put_copy(
+    alloc: Global,
+    files: &mut Entries,
+    name: &str,
+    bytes: &[u8],
+) -> Result<(), AllocError> {
+    put(alloc, files, name, Vec::from_slice(alloc, bytes)?)
+}
+
+// Files by their names and bytes.
+pub(crate) type Listed<'a> = &'a [(&'a str, &'a [u8])];
+
+fn put_listed(alloc: Global, files: &mut Entries, list: Listed<'_>) -> Result<(), AllocError> {
+    for (name, bytes) in list {
+        put_copy(alloc, files, *name, *bytes)?;
+    }
+    Ok(())
+}
+
+// These files, of which each is read without a fault.
+pub(crate) fn files_of(alloc: Global, list: Listed<'_>) -> Result<MemFiles, AllocError> {
+    let mut files = Vec::new(alloc);
+    put_listed(alloc, &mut files, list)?;
+    Ok(MemFiles::new(alloc, files, Vec::new(alloc)))
+}
+
 pub(crate) fn put_sections(
     alloc: Global,
     files: &mut Entries,
@@ -474,12 +508,7 @@ pub(crate) fn put_sections(
 ) -> Result<(), AllocError> {
     for section in text.split("# ") {
         if let Some((name, lines)) = section.split_once("\n") {
-            put(
-                alloc,
-                files,
-                name,
-                Vec::from_slice(alloc, lines.as_bytes())?,
-            )?;
+            put_copy(alloc, files, name, lines.as_bytes())?;
         }
     }
     Ok(())
@@ -520,12 +549,19 @@ pub(crate) fn put_made(alloc: Global, files: &mut Entries) -> Result<(), AllocEr
 }
 
 // The stacks by their names: `hazards` and `epochs-held`.
-pub(crate) fn put_stacks(alloc: Global, files: &mut Entries) -> Result<(), AllocError> {
+fn put_stacks(alloc: Global, files: &mut Entries) -> Result<(), AllocError> {
     for row in STACKS {
         let name = *row;
         put(alloc, files, name, text_of(alloc, name)?.into_bytes())?;
     }
     Ok(())
+}
+
+// The files and schedules that stand here as they are.
+pub(crate) fn put_given(alloc: Global, files: &mut Entries) -> Result<(), AllocError> {
+    put_sections(alloc, files, FILES)?;
+    put_stacks(alloc, files)?;
+    put_pieces(alloc, files, SCHEDULES)
 }
 
 // The text of a file that a section has.
@@ -559,19 +595,25 @@ fn change_at(changes: &'static [(usize, &'static str)], number: usize) -> Option
     None
 }
 
-// A text with some of its lines put otherwise.
+// Writes a text with some of its lines put otherwise.
+fn push_lines(
+    out: &mut String,
+    text: &str,
+    changes: &'static [(usize, &'static str)],
+) -> Result<(), AllocError> {
+    for (i, line) in text.split_inclusive("\n").enumerate() {
+        out.push_str(change_at(changes, i.wrapping_add(1)).unwrap_or(line))?;
+    }
+    Ok(())
+}
+
 fn with_lines(
     alloc: Global,
     text: &str,
     changes: &'static [(usize, &'static str)],
 ) -> Result<String, AllocError> {
     let mut out = String::new(alloc);
-    for (i, line) in text.split_inclusive("\n").enumerate() {
-        match change_at(changes, i.wrapping_add(1)) {
-            Some(other) => out.push_str(other)?,
-            None => out.push_str(line)?,
-        }
-    }
+    push_lines(&mut out, text, changes)?;
     Ok(out)
 }
 

@@ -1,9 +1,9 @@
 // The limits: what has as many parts as there may be is judged, and what has one more is refused with that count.
 // `check` is asked for all, each command that reads files for those that are tested after the parse. The texts are made
 // here, part by part.
-use crate::tests::files::put;
-use crate::tests::program::{Part, wrong_commands};
-use plc_cli::MemFiles;
+use crate::tests::files::files_of;
+use crate::tests::program::{Part, note_commands};
+use crate::tests::texts::text_is;
 use std::alloc::{AllocError, Global};
 
 // The words of commands over the file `made`; how many parts that has, what stands before them, a part, in which `$`
@@ -196,24 +196,33 @@ const NUMBERS: &[(&str, &str, &str)] = &[
 
 const PLAIN: &str = "struct N { } op f() { ptr p; p := new; }";
 
-// The answers to commands over `made`, a plain file and claims whose status and first line aren't as is wanted.
+// Notes the answers to commands over `made`, a plain file and claims whose status and first line aren't as is wanted.
+fn note_answers(
+    alloc: Global,
+    wrong: &mut String,
+    commands: &str,
+    made: &[u8],
+    want: &str,
+) -> Result<(), AllocError> {
+    let list = [
+        ("plain", PLAIN.as_bytes()),
+        ("claims", CLAIMS.as_bytes()),
+        ("others", OTHERS.as_bytes()),
+        ("made", made),
+    ];
+    let mut files = files_of(alloc, &list)?;
+    note_commands(alloc, wrong, &mut files, commands, Part::Head, want)
+}
+
 fn wrong_answers(
     alloc: Global,
     commands: &str,
     made: &[u8],
     want: &str,
 ) -> Result<String, AllocError> {
-    let mut files = Vec::new(alloc);
-    for (name, bytes) in [
-        ("plain", PLAIN.as_bytes()),
-        ("claims", CLAIMS.as_bytes()),
-        ("others", OTHERS.as_bytes()),
-        ("made", made),
-    ] {
-        put(alloc, &mut files, name, Vec::from_slice(alloc, bytes)?)?;
-    }
-    let mut files = MemFiles::new(alloc, files, Vec::new(alloc));
-    wrong_commands(alloc, &mut files, commands, Part::Head, want)
+    let mut wrong = String::new(alloc);
+    note_answers(alloc, &mut wrong, commands, made, want)?;
+    Ok(wrong)
 }
 
 // A part, with its number in the place of `$`.
@@ -224,7 +233,27 @@ fn numbered(alloc: Global, part: &str, i: u32) -> Result<String, AllocError> {
     }
 }
 
-// A text, then so many parts, then another text.
+fn push_part(alloc: Global, text: &mut String, part: &str, i: u32) -> Result<(), AllocError> {
+    let part = numbered(alloc, part, i)?;
+    text.push_str(part.as_str())
+}
+
+// Writes a text, then so many parts, then another text.
+fn push_parts(
+    alloc: Global,
+    text: &mut String,
+    before: &str,
+    part: &str,
+    count: u32,
+    after: &str,
+) -> Result<(), AllocError> {
+    text.push_str(before)?;
+    for i in 0..count {
+        push_part(alloc, text, part, i)?;
+    }
+    text.push_str(after)
+}
+
 fn parts(
     alloc: Global,
     before: &str,
@@ -233,34 +262,54 @@ fn parts(
     after: &str,
 ) -> Result<String, AllocError> {
     let mut text = String::new(alloc);
-    for i in 0..count {
-        text.push_str(numbered(alloc, part, i)?.as_str())?;
-    }
-    format!(in alloc; "{before}{text}{after}")
+    push_parts(alloc, &mut text, before, part, count, after)?;
+    Ok(text)
 }
 
-// The answers of a row that aren't as is wanted.
-fn wrong_in_row(alloc: Global, row: &str) -> Result<String, AllocError> {
-    let mut fields = row.split("|");
-    let commands = fields.next().unwrap_or("");
-    let mut count = fields.next().unwrap_or("").parse::<u32>().unwrap_or(0);
-    let before = fields.next().unwrap_or("");
-    let part = fields.next().unwrap_or("");
-    let after = fields.next().unwrap_or("");
-    let mut wrong = String::new(alloc);
-    for want in fields {
-        let made = parts(alloc, before, part, count, after)?;
-        let others = wrong_answers(alloc, commands, made.as_bytes(), want.trim_end())?;
-        wrong.push_str(others.as_str())?;
-        count = count.wrapping_add(1);
+// A field of a row.
+fn field(row: &str, n: usize) -> &str {
+    row.split("|").nth(n).unwrap_or("")
+}
+
+// The text of a row with so many parts more.
+fn made_text(alloc: Global, row: &str, more: u32) -> Result<String, AllocError> {
+    let count = field(row, 1).parse::<u32>().unwrap_or(0);
+    parts(
+        alloc,
+        field(row, 2),
+        field(row, 3),
+        count.wrapping_add(more),
+        field(row, 4),
+    )
+}
+
+// Notes the answers to that text that aren't this one.
+fn note_made(
+    alloc: Global,
+    wrong: &mut String,
+    row: &str,
+    more: u32,
+    want: &str,
+) -> Result<(), AllocError> {
+    let made = made_text(alloc, row, more)?;
+    note_answers(alloc, wrong, field(row, 0), made.as_bytes(), want)
+}
+
+// Notes the answers of a row that aren't as is wanted.
+fn note_row(alloc: Global, wrong: &mut String, row: &str) -> Result<(), AllocError> {
+    for more in 0..2 {
+        let want = field(row, 5 + more as usize).trim_end();
+        if !want.is_empty() {
+            note_made(alloc, wrong, row, more, want)?;
+        }
     }
-    Ok(wrong)
+    Ok(())
 }
 
 fn wrong_in_rows(alloc: Global, rows: &str) -> Result<String, AllocError> {
     let mut wrong = String::new(alloc);
     for row in rows.split("# ") {
-        wrong.push_str(wrong_in_row(alloc, row)?.as_str())?;
+        note_row(alloc, &mut wrong, row)?;
     }
     Ok(wrong)
 }
@@ -268,7 +317,7 @@ fn wrong_in_rows(alloc: Global, rows: &str) -> Result<String, AllocError> {
 #[test]
 fn parts_have_limits(rt: HostRuntime) -> Result<(), AllocError> {
     for rows in [PARTS, CLAUSES, POINTS_AND_LINES, EXTENDED, SPOTS] {
-        assert_eq!(rt; wrong_in_rows(rt.alloc(), rows)?.as_str(), "");
+        text_is(&rt, wrong_in_rows(rt.alloc(), rows), "", "parts")?;
     }
     Ok(())
 }
@@ -276,14 +325,22 @@ fn parts_have_limits(rt: HostRuntime) -> Result<(), AllocError> {
 // Apart from the others, since it takes longest: some of its files have a million obligations.
 #[test]
 fn obligations_have_a_limit(rt: HostRuntime) -> Result<(), AllocError> {
-    assert_eq!(rt; wrong_in_rows(rt.alloc(), OBLIGATIONS)?.as_str(), "");
-    Ok(())
+    text_is(
+        &rt,
+        wrong_in_rows(rt.alloc(), OBLIGATIONS),
+        "",
+        "obligations",
+    )
 }
 
 #[test]
 fn a_million_obligations_are_judged(rt: HostRuntime) -> Result<(), AllocError> {
-    assert_eq!(rt; wrong_in_rows(rt.alloc(), MOST_OBLIGATIONS)?.as_str(), "");
-    Ok(())
+    text_is(
+        &rt,
+        wrong_in_rows(rt.alloc(), MOST_OBLIGATIONS),
+        "",
+        "a million",
+    )
 }
 
 // The wrong answers to commands over so many blanks.
@@ -301,10 +358,12 @@ fn wrong_of_blanks(
 fn files_have_sizes(rt: HostRuntime) -> Result<(), AllocError> {
     for row in SIZES {
         let (commands, count, want) = *row;
-        assert_eq!(rt;
-            wrong_of_blanks(rt.alloc(), commands, count, want)?.as_str(),
-            ""
-        );
+        text_is(
+            &rt,
+            wrong_of_blanks(rt.alloc(), commands, count, want),
+            "",
+            commands,
+        )?;
     }
     Ok(())
 }
@@ -313,10 +372,12 @@ fn files_have_sizes(rt: HostRuntime) -> Result<(), AllocError> {
 fn numbers_have_limits(rt: HostRuntime) -> Result<(), AllocError> {
     for row in NUMBERS {
         let (words, made, want) = *row;
-        assert_eq!(rt;
-            wrong_answers(rt.alloc(), words, made.as_bytes(), want)?.as_str(),
-            ""
-        );
+        text_is(
+            &rt,
+            wrong_answers(rt.alloc(), words, made.as_bytes(), want),
+            "",
+            words,
+        )?;
     }
     Ok(())
 }

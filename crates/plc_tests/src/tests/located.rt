@@ -7,6 +7,7 @@ ghost use Rattle.plc_run.specs.Position.{IsOfRun};
 
 use crate::tests::locations::{answer, file_text};
 use crate::tests::reclaimers::drawn_after;
+use crate::tests::texts::text_is;
 use plc_auto::{Event, Observer};
 use plc_base::{Items, LocId, NoMemory, OpId};
 use plc_check::Judged;
@@ -342,11 +343,7 @@ fn located_pointers_stand_in_their_locations(rt: HostRuntime) -> Result<(), NoMe
         } else {
             "false true true"
         };
-        assert_eq!(rt;
-            looked_at(rt.alloc(), name, text, claim)?.as_str(),
-            want,
-            "{name} {text}"
-        );
+        text_is(&rt, looked_at(rt.alloc(), name, text, claim), want, text)?;
     }
     Ok(())
 }

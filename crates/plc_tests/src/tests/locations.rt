@@ -1,8 +1,8 @@
 // Claims of locations: what is claimed of a file is read, located and proved, or the first of these fails. A row has
 // the name of a file, the claims, and the status with the first line of the answer.
-use crate::tests::files::{CHANGED, changed, put, text_of};
-use crate::tests::program::head;
-use plc_cli::MemFiles;
+use crate::tests::files::{CHANGED, changed, text_of};
+use crate::tests::program::answer_over;
+use crate::tests::texts::{first_of, halves, text_is};
 use std::alloc::{AllocError, Global};
 
 // Under hazard pointers and epochs: at `f` the node at `t` isn't retired, which the outline says and the type of `t`
@@ -104,35 +104,31 @@ pub(crate) fn file_text(alloc: Global, name: &str) -> Result<String, AllocError>
     text_of(alloc, name)
 }
 
-// The status and the first line of what is answered to claims for a file.
-pub(crate) fn answer(alloc: Global, file: &str, claims: &str) -> Result<String, AllocError> {
-    let mut files = Vec::new(alloc);
-    for (name, text) in [("file", file), ("claims", claims)] {
-        let bytes = Vec::from_slice(alloc, text.as_bytes())?;
-        put(alloc, &mut files, name, bytes)?;
-    }
-    let mut files = MemFiles::new(alloc, files, Vec::new(alloc));
-    head(alloc, &mut files, "locate file claims")
+// What is answered to claims for a file.
+fn whole_answer(alloc: Global, file: &str, claims: &str) -> Result<String, AllocError> {
+    let list = [("file", file.as_bytes()), ("claims", claims.as_bytes())];
+    answer_over(alloc, &list, "locate file claims")
 }
 
-// What is answered to a row where it isn't what the row says.
-fn wrong_row(alloc: Global, row: &str) -> Result<String, AllocError> {
-    let (name, rest) = row.split_once(" => ").unwrap_or((row, ""));
-    let (claims, want) = rest.split_once(" => ").unwrap_or((rest, ""));
+// The status and the first line of it.
+pub(crate) fn answer(alloc: Global, file: &str, claims: &str) -> Result<String, AllocError> {
+    let answer = whole_answer(alloc, file, claims)?;
+    first_of(alloc, answer.as_str())
+}
+
+// The same for a file by its name.
+fn answer_for(alloc: Global, name: &str, claims: &str) -> Result<String, AllocError> {
     let file = file_text(alloc, name)?;
-    let have = answer(alloc, file.as_str(), claims)?;
-    if have.as_str() == want {
-        Ok(String::new(alloc))
-    } else {
-        Ok(have)
-    }
+    answer(alloc, file.as_str(), claims)
 }
 
 #[test]
 fn claims_of_locations_have_their_answers(rt: HostRuntime) -> Result<(), AllocError> {
     for rows in [HELD, ORDER, PLAIN, STOPS] {
         for row in rows.lines() {
-            assert_eq!(rt; wrong_row(rt.alloc(), row)?.as_str(), "", "{row}");
+            let (name, rest) = halves(row, " => ");
+            let (claims, want) = halves(rest, " => ");
+            text_is(&rt, answer_for(rt.alloc(), name, claims), want, row)?;
         }
     }
     Ok(())

@@ -4,10 +4,10 @@
 ghost use Rattle.plc_setting.specs.Fit.{Fits};
 
 use crate::tests::files::{CHANGED, changed};
-use crate::tests::program::{answered, head, words_of};
+use crate::tests::program::{answer_over, text_over};
+use crate::tests::texts::{first_of, text_is};
 use plc_base::{Items, NoMemory};
 use plc_check::Judged;
-use plc_cli::MemFiles;
 use plc_ground::{GroundModel, GroundSet, is_model};
 use plc_oblig::{Obligation, count, ground, nth};
 use plc_testing::loaded;
@@ -29,15 +29,28 @@ fn classes(alloc: Global, answer: &str) -> Result<GroundModel, AllocError> {
     })
 }
 
-// The line that tells an obligation.
-fn line_of(alloc: Global, judged: &Judged, o: &Obligation) -> Result<String, AllocError> {
-    let set = GroundSet {
+fn no_clauses(alloc: Global) -> GroundSet {
+    GroundSet {
         terms: Items::from_vec(Vec::new(alloc)),
         sorts: Items::from_vec(Vec::new(alloc)),
         clauses: Items::from_vec(Vec::new(alloc)),
-    };
-    let text = unproved_text(alloc, &judged.flow, o, &set, &[])?;
-    String::from_str(alloc, str::from_utf8(&text).unwrap_or("?"))
+    }
+}
+
+// The line that tells an obligation.
+fn line_of(alloc: Global, judged: &Judged, o: &Obligation) -> Result<Vec<u8>, AllocError> {
+    let set = no_clauses(alloc);
+    unproved_text(alloc, &judged.flow, o, &set, &[])
+}
+
+fn is_told(
+    alloc: Global,
+    judged: &Judged,
+    o: &Obligation,
+    answer: &str,
+) -> Result<bool, AllocError> {
+    let line = line_of(alloc, judged, o)?;
+    Ok(answer.as_bytes().starts_with(&line))
 }
 
 // Whether the classes are a model of the obligation's ground set.
@@ -60,7 +73,7 @@ fn has_model(alloc: Global, judged: &Judged, answer: &str) -> Result<bool, NoMem
     let model = classes(alloc, answer)?;
     for i in 0..count(&judged.flow, &judged.unit_outline) {
         if let Some(o) = nth(&judged.flow, &judged.unit_outline, i) {
-            if answer.starts_with(line_of(alloc, judged, &o)?.as_str()) {
+            if is_told(alloc, judged, &o, answer)? {
                 return is_model_of(alloc, judged, &o, &model);
             }
         }
@@ -70,14 +83,7 @@ fn has_model(alloc: Global, judged: &Judged, answer: &str) -> Result<bool, NoMem
 
 // What `check` answers to a text, without its status.
 fn answer_to(alloc: Global, text: &str) -> Result<String, AllocError> {
-    let file = (
-        String::from_str(alloc, "file")?,
-        Vec::from_slice(alloc, text.as_bytes())?,
-    );
-    let mut files = MemFiles::new(alloc, vec![in alloc; file]?, Vec::new(alloc));
-    let words = words_of(alloc, "check file")?;
-    let text = answered(alloc, &mut files, &words)?;
-    String::from_str(alloc, text.as_str().strip_prefix("1\n").unwrap_or(""))
+    text_over(alloc, &[("file", text.as_bytes())], "check file", "1\n")
 }
 
 // The first line of what is answered to a file that is changed, where its classes are a model.
@@ -122,18 +128,15 @@ fn what_is_printed_is_a_model(rt: HostRuntime) -> Result<(), NoMemory> {
         ("marked-cleared", "unproved own step 1 line 3 clause 1"),
     ] {
         let (name, want) = *row;
-        assert_eq!(rt; first_line(rt.alloc(), name)?.as_str(), want);
+        text_is(&rt, first_line(rt.alloc(), name), want, name)?;
     }
     Ok(())
 }
 
 // The status and the first line of what is answered to words without files.
 fn sampled(alloc: Global, words: &str) -> Result<String, AllocError> {
-    head(
-        alloc,
-        &mut MemFiles::new(alloc, Vec::new(alloc), Vec::new(alloc)),
-        words,
-    )
+    let answer = answer_over(alloc, &[], words)?;
+    first_of(alloc, answer.as_str())
 }
 
 #[test]
@@ -150,7 +153,7 @@ fn samples_have_their_verdicts(rt: HostRuntime) -> Result<(), AllocError> {
         ),
     ] {
         let (words, want) = *row;
-        assert_eq!(rt; sampled(rt.alloc(), words)?.as_str(), want);
+        text_is(&rt, sampled(rt.alloc(), words), want, words)?;
     }
     Ok(())
 }

@@ -1,6 +1,7 @@
 // Files and sinks: that each call which takes memory succeeds where there is enough of it, what a fault
 // prints, and what the system does after its handle.
 use crate::tests::files::put_sections;
+use crate::tests::texts::text_is;
 use plc_outside::{
     FailSink, FileFault, Files, MemFiles, OutSink, RealFiles, Sink, SinkFault, VecSink, write_text,
 };
@@ -38,32 +39,65 @@ fn some_files(alloc: Global) -> Result<MemFiles, AllocError> {
     Ok(MemFiles::new(alloc, files, vec![in alloc; 4]?))
 }
 
-// The answers of seven reads.
-fn reads_text(alloc: Global) -> Result<String, AllocError> {
-    let mut files = some_files(alloc)?;
-    let mut text = String::new(alloc);
-    for row in &[
-        ("a", 3),
-        ("a", 2),
-        ("b", 0),
-        ("a", 9),
-        ("a", 9),
-        ("c", 9),
-        ("", 0),
-    ] {
-        let (name, max) = *row;
-        text.push_str(read_text(alloc, &mut files, name, max)?.as_str())?;
+fn push_read<F: Files>(
+    alloc: Global,
+    text: &mut String,
+    files: &mut F,
+    name: &str,
+    max: usize,
+) -> Result<(), AllocError> {
+    let read = read_text(alloc, files, name, max)?;
+    text.push_str(read.as_str())
+}
+
+// The answers of these reads, each of a name and so many bytes at most.
+fn push_reads<F: Files>(
+    alloc: Global,
+    text: &mut String,
+    files: &mut F,
+    reads: &[(&str, usize)],
+) -> Result<(), AllocError> {
+    for read in reads {
+        let (name, max) = *read;
+        push_read(alloc, text, files, name, max)?;
     }
+    Ok(())
+}
+
+fn reads_text<F: Files>(
+    alloc: Global,
+    files: &mut F,
+    reads: &[(&str, usize)],
+) -> Result<String, AllocError> {
+    let mut text = String::new(alloc);
+    push_reads(alloc, &mut text, files, reads)?;
     Ok(text)
+}
+
+const SEVEN: &[(&str, usize)] = &[
+    ("a", 3),
+    ("a", 2),
+    ("b", 0),
+    ("a", 9),
+    ("a", 9),
+    ("c", 9),
+    ("", 0),
+];
+
+// The answers of seven reads.
+fn memory_text(alloc: Global) -> Result<String, AllocError> {
+    let mut files = some_files(alloc)?;
+    reads_text(alloc, &mut files, SEVEN)
 }
 
 #[test]
 fn files_in_memory(rt: HostRuntime) -> Result<(), AllocError> {
-    assert_eq!(rt;
-        reads_text(rt.alloc())?.as_str(),
-        "'abc' too long '' failed 'abc' failed failed "
-    );
-    Ok(())
+    text_is(
+        &rt,
+        memory_text(rt.alloc()),
+        "'abc' too long '' failed 'abc' failed failed ",
+        "seven reads",
+    )
 }
 
 // What a sink answers to a text.
@@ -95,7 +129,12 @@ fn failing_text(alloc: Global, most: usize, failing: u64) -> Result<String, Allo
 
 #[test]
 fn sinks_in_memory(rt: HostRuntime) -> Result<(), AllocError> {
-    assert_eq!(rt; growing_text(rt.alloc())?.as_str(), "Ok(0) Ok(2) ok abcde");
+    text_is(
+        &rt,
+        growing_text(rt.alloc()),
+        "Ok(0) Ok(2) ok abcde",
+        "growing",
+    )?;
     for row in &[
         ("ok abc", 1, 0),
         ("ok abc", 2, 0),
@@ -105,7 +144,7 @@ fn sinks_in_memory(rt: HostRuntime) -> Result<(), AllocError> {
         ("failed ", 0, 0),
     ] {
         let (want, most, failing) = *row;
-        assert_eq!(rt; failing_text(rt.alloc(), most, failing)?.as_str(), want);
+        text_is(&rt, failing_text(rt.alloc(), most, failing), want, want)?;
     }
     Ok(())
 }
@@ -123,26 +162,26 @@ const SINK_FAULTS: &[(SinkFault, &str)] = &[
 
 #[test]
 fn faults_print_their_cause(rt: HostRuntime) -> Result<(), AllocError> {
-    let alloc = rt.alloc();
     for (fault, want) in FILE_FAULTS {
-        assert_eq!(rt; format!(in alloc; "{fault}")?.as_str(), *want);
+        text_is(&rt, format!(in rt.alloc(); "{fault}"), *want, *want)?;
     }
     for (fault, want) in SINK_FAULTS {
-        assert_eq!(rt; format!(in alloc; "{fault}")?.as_str(), *want);
+        text_is(&rt, format!(in rt.alloc(); "{fault}"), *want, *want)?;
     }
     Ok(())
 }
 
 // What the system's file is read as, of which all bytes are `x`, and what other names are.
 fn systems_text<F: Files>(alloc: Global, files: &mut F, name: &str) -> Result<String, AllocError> {
-    let mut text = String::new(alloc);
-    for max in [5000, usize::MAX, 4999, 0] {
-        text.push_str(read_text(alloc, files, name, max)?.as_str())?;
-    }
-    for other in ["", "/"] {
-        text.push_str(read_text(alloc, files, other, 9)?.as_str())?;
-    }
-    Ok(text)
+    let reads = [
+        (name, 5000),
+        (name, usize::MAX),
+        (name, 4999),
+        (name, 0),
+        ("", 9),
+        ("/", 9),
+    ];
+    reads_text(alloc, files, &reads)
 }
 
 // A name of the system's own for a file that no one else has.

@@ -1,54 +1,98 @@
 // Whole answers of `run` over files in memory. That there is memory for an answer, and which bytes an
 // output is handed, is what no contract can say. `files.rt` has the files, and `rows.rt` the rows of answers.
 use crate::tests::files::{
-    Entries, FILES, OUTLINED, SCHEDULES, STACKS, put, put_changed, put_made, put_pieces,
-    put_sections, put_stacks, text_of,
+    Entries, FILES, Listed, OUTLINED, STACKS, files_of, put_changed, put_given, put_made, text_of,
 };
 use crate::tests::rows::{CERTIFIED, CHECKED, PRINTED, REPLAYED, SUGGESTED, UNLISTED};
-use plc_cli::{FailSink, Files, MemFiles, VecSink, run, run_with_own};
+use crate::tests::texts::{first_of, halves, note, on_one_line, text_is, text_under, told};
+use plc_cli::{FailSink, Files, MemFiles, VecSink, run_with_own};
 use std::alloc::{AllocError, Global};
+
+fn put_all(alloc: Global, files: &mut Entries) -> Result<(), AllocError> {
+    put_given(alloc, files)?;
+    put_made(alloc, files)?;
+    put_changed(alloc, files)
+}
 
 fn entries(alloc: Global) -> Result<Entries, AllocError> {
     let mut files = Vec::new(alloc);
-    put_sections(alloc, &mut files, FILES)?;
-    put_stacks(alloc, &mut files)?;
-    put_pieces(alloc, &mut files, SCHEDULES)?;
-    put_made(alloc, &mut files)?;
-    put_changed(alloc, &mut files)?;
+    put_all(alloc, &mut files)?;
     Ok(files)
 }
 
-// The files, where these calls of `read` fail.
-fn some_files(alloc: Global, failing: &[u64]) -> Result<MemFiles, AllocError> {
-    let failing = Vec::from_slice(alloc, failing)?;
+// The files, where this call of `read` fails; the calls are counted from 1.
+fn some_files(alloc: Global, failing: u64) -> Result<MemFiles, AllocError> {
+    let failing = vec![in alloc; failing]?;
     Ok(MemFiles::new(alloc, entries(alloc)?, failing))
+}
+
+fn push_words(alloc: Global, list: &mut Vec<String>, words: &str) -> Result<(), AllocError> {
+    for word in words.split(" ") {
+        list.push(String::from_str(alloc, word)?)?;
+    }
+    Ok(())
 }
 
 pub(crate) fn words_of(alloc: Global, words: &str) -> Result<Vec<String>, AllocError> {
     let mut list = Vec::new(alloc);
     if !words.is_empty() {
-        for word in words.split(" ") {
-            list.push(String::from_str(alloc, word)?)?;
-        }
+        push_words(alloc, &mut list, words)?;
     }
     Ok(list)
 }
 
-// The status and then the text.
-pub(crate) fn answered<F: Files>(
+// The status and then the text, in an output that never fails.
+fn answered<F: Files>(
     alloc: Global,
     files: &mut F,
     words: &[String],
 ) -> Result<String, AllocError> {
     let mut out = VecSink::new(alloc);
     let status = run_with_own(alloc, words, files, &mut out);
-    let text = str::from_utf8(out.written()).unwrap_or("?");
-    format!(in alloc; "{status}\n{text}")
+    told(alloc, status, out.written())
 }
 
-fn answer<F: Files>(alloc: Global, files: &mut F, words: &str) -> Result<String, AllocError> {
+// The same, in an output that takes so many bytes at a call and fails at one; the calls are counted from 1.
+pub(crate) fn answered_failing<F: Files>(
+    alloc: Global,
+    files: &mut F,
+    words: &[String],
+    most: usize,
+    failing: u64,
+) -> Result<String, AllocError> {
+    let mut out = FailSink::new(alloc, most, vec![in alloc; failing]?);
+    let status = run_with_own(alloc, words, files, &mut out);
+    told(alloc, status, out.written())
+}
+
+pub(crate) fn answer<F: Files>(
+    alloc: Global,
+    files: &mut F,
+    words: &str,
+) -> Result<String, AllocError> {
     let words = words_of(alloc, words)?;
     answered(alloc, files, &words)
+}
+
+// The answer over these files.
+pub(crate) fn answer_over(
+    alloc: Global,
+    list: Listed<'_>,
+    words: &str,
+) -> Result<String, AllocError> {
+    let mut files = files_of(alloc, list)?;
+    answer(alloc, &mut files, words)
+}
+
+// Its text where it has this status, and no text where it has another one.
+pub(crate) fn text_over(
+    alloc: Global,
+    list: Listed<'_>,
+    words: &str,
+    status: &str,
+) -> Result<String, AllocError> {
+    let answer = answer_over(alloc, list, words)?;
+    text_under(alloc, status, answer.as_str())
 }
 
 // The status and the first line of what is answered.
@@ -57,10 +101,8 @@ pub(crate) fn head<F: Files>(
     files: &mut F,
     words: &str,
 ) -> Result<String, AllocError> {
-    let text = answer(alloc, files, words)?;
-    let (status, rest) = text.as_str().split_once("\n").unwrap_or(("", ""));
-    let (line, _) = rest.split_once("\n").unwrap_or(("", ""));
-    format!(in alloc; "{status} {line}")
+    let answer = answer(alloc, files, words)?;
+    first_of(alloc, answer.as_str())
 }
 
 // How much of an answer a row tells: all of it, or the status and the first line.
@@ -82,60 +124,72 @@ fn part_of_answer<F: Files>(
     }
 }
 
-// What is answered to commands, which commas part, where it isn't this.
-pub(crate) fn wrong_commands<F: Files>(
+// Notes what is answered to words where it isn't this.
+fn note_answer<F: Files>(
     alloc: Global,
+    wrong: &mut String,
+    files: &mut F,
+    words: &str,
+    part: Part,
+    want: &str,
+) -> Result<(), AllocError> {
+    let have = part_of_answer(alloc, part, files, words)?;
+    note(wrong, words, have.as_str(), want)
+}
+
+// The same of commands, which commas part.
+pub(crate) fn note_commands<F: Files>(
+    alloc: Global,
+    wrong: &mut String,
     files: &mut F,
     commands: &str,
     part: Part,
     want: &str,
-) -> Result<String, AllocError> {
-    let mut wrong = String::new(alloc);
+) -> Result<(), AllocError> {
     for words in commands.split(", ") {
-        let have = part_of_answer(alloc, part, files, words)?;
-        if have.as_str() != want {
-            wrong.push_str(format!(in alloc; "{words}: {have}, not {want}\n")?.as_str())?;
-        }
+        note_answer(alloc, wrong, files, words, part, want)?;
     }
-    Ok(wrong)
+    Ok(())
 }
 
-// The answers of the rows that have another one; a row is its commands, their status and their text.
+// The same of rows; a row is its commands, their status and their text.
+fn note_rows<F: Files>(
+    alloc: Global,
+    wrong: &mut String,
+    files: &mut F,
+    rows: &str,
+) -> Result<(), AllocError> {
+    for row in rows.split("# ") {
+        if let Some((commands, want)) = row.split_once(": ") {
+            note_commands(alloc, wrong, files, commands, Part::Whole, want)?;
+        }
+    }
+    Ok(())
+}
+
+// The answers of the rows that have another one.
 pub(crate) fn wrong_rows<F: Files>(
     alloc: Global,
     files: &mut F,
     rows: &str,
 ) -> Result<String, AllocError> {
     let mut wrong = String::new(alloc);
-    for row in rows.split("# ") {
-        if let Some((commands, want)) = row.split_once(": ") {
-            let others = wrong_commands(alloc, files, commands, Part::Whole, want)?;
-            wrong.push_str(others.as_str())?;
-        }
-    }
+    note_rows(alloc, &mut wrong, files, rows)?;
     Ok(wrong)
 }
 
 // The same over all files.
-fn wrong_answers(alloc: Global, rows: &str, failing: &[u64]) -> Result<String, AllocError> {
+fn wrong_answers(alloc: Global, rows: &str, failing: u64) -> Result<String, AllocError> {
     let mut files = some_files(alloc, failing)?;
     wrong_rows(alloc, &mut files, rows)
 }
 
 #[test]
 fn each_row_has_its_answer(rt: HostRuntime) -> Result<(), AllocError> {
-    for row in &[
-        (CHECKED, [0]),
-        (PRINTED, [0]),
-        (REPLAYED, [0]),
-        (CERTIFIED, [0]),
-        (SUGGESTED, [0]),
-        (UNLISTED, [1]),
-    ] {
-        let (rows, failing) = *row;
-        assert_eq!(rt; wrong_answers(rt.alloc(), rows, &failing)?.as_str(), "");
+    for rows in [CHECKED, PRINTED, REPLAYED, CERTIFIED, SUGGESTED] {
+        text_is(&rt, wrong_answers(rt.alloc(), rows, 0), "", "rows")?;
     }
-    Ok(())
+    text_is(&rt, wrong_answers(rt.alloc(), UNLISTED, 1), "", "unlisted")
 }
 
 // The first call of `read` fails: none came before, and the next one is answered.
@@ -152,18 +206,19 @@ struct N {
 
 #[test]
 fn other_words_are_refused_unread(rt: HostRuntime) -> Result<(), AllocError> {
-    assert_eq!(rt; wrong_answers(rt.alloc(), UNREAD, &[1])?.as_str(), "");
-    Ok(())
+    text_is(&rt, wrong_answers(rt.alloc(), UNREAD, 1), "", "unread")
 }
 
 // What is answered to `check lost` and written into a sink that takes so many bytes and fails at a call.
 fn taken(alloc: Global, most: usize, failing: u64) -> Result<String, AllocError> {
-    let mut files = some_files(alloc, &[])?;
     let words = words_of(alloc, "check lost")?;
-    let mut out = FailSink::new(alloc, most, vec![in alloc; failing]?);
-    let status = run(alloc, &words, &mut files, &mut out, Vec::new(alloc));
-    let text = str::from_utf8(out.written()).unwrap_or("?");
-    format!(in alloc; "{status} {text}")
+    let mut files = some_files(alloc, 0)?;
+    answered_failing(alloc, &mut files, &words, most, failing)
+}
+
+fn taken_on_one_line(alloc: Global, most: usize, failing: u64) -> Result<String, AllocError> {
+    let answer = taken(alloc, most, failing)?;
+    on_one_line(alloc, answer.as_str())
 }
 
 #[test]
@@ -176,50 +231,59 @@ fn an_output_takes_all_or_a_part(rt: HostRuntime) -> Result<(), AllocError> {
         (0, 0, "5 "),
     ] {
         let (most, failing, want) = *row;
-        assert_eq!(rt; taken(rt.alloc(), most, failing)?.as_str(), want);
+        text_is(
+            &rt,
+            taken_on_one_line(rt.alloc(), most, failing),
+            want,
+            want,
+        )?;
     }
     Ok(())
 }
 
-// What is printed of a text.
+// What is printed of a text, below the status.
 fn printed(alloc: Global, text: &str) -> Result<String, AllocError> {
-    let mut files = Vec::new(alloc);
-    put(
-        alloc,
-        &mut files,
-        "file",
-        Vec::from_slice(alloc, text.as_bytes())?,
-    )?;
-    let mut files = MemFiles::new(alloc, files, Vec::new(alloc));
-    answer(alloc, &mut files, "print file")
+    answer_over(alloc, &[("file", text.as_bytes())], "print file")
 }
 
-// A text's name where it is printed otherwise from what is printed of it.
-fn misprint(alloc: Global, name: &'static str, file: &str) -> Result<&'static str, AllocError> {
-    let once = printed(alloc, file)?;
-    match once.as_str().strip_prefix("0\n") {
-        Some(text) if printed(alloc, text)?.as_str() != once.as_str() => Ok(name),
-        _ => Ok(""),
+// Whether what was printed of a text, if there is any, is printed the same.
+fn is_reprinted(alloc: Global, once: &str) -> Result<bool, AllocError> {
+    match once.strip_prefix("0\n") {
+        Some(text) => Ok(printed(alloc, text)?.as_str() == once),
+        None => Ok(true),
     }
+}
+
+fn is_printed_once(alloc: Global, file: &str) -> Result<bool, AllocError> {
+    let once = printed(alloc, file)?;
+    is_reprinted(alloc, once.as_str())
+}
+
+fn is_stack_printed_once(alloc: Global, name: &str) -> Result<bool, AllocError> {
+    let file = text_of(alloc, name)?;
+    is_printed_once(alloc, file.as_str())
 }
 
 #[test]
 fn a_print_is_printed_the_same(rt: HostRuntime) -> Result<(), AllocError> {
     for section in FILES.split("# ") {
-        let (name, file) = section.split_once("\n").unwrap_or(("", ""));
-        assert_eq!(rt; misprint(rt.alloc(), name, file)?, "");
+        let (name, file) = halves(section, "\n");
+        assert!(rt; is_printed_once(rt.alloc(), file)?, "{name}");
     }
     for row in STACKS {
         let name = *row;
-        let file = text_of(rt.alloc(), name)?;
-        assert_eq!(rt; misprint(rt.alloc(), name, file.as_str())?, "");
+        assert!(rt; is_stack_printed_once(rt.alloc(), name)?, "{name}");
     }
     Ok(())
 }
 
 #[test]
 fn what_is_spelled_as_printed_stays(rt: HostRuntime) -> Result<(), AllocError> {
-    let text = printed(rt.alloc(), OUTLINED)?;
-    assert_eq!(rt; text.as_str().strip_prefix("0\n").unwrap_or(""), OUTLINED);
-    Ok(())
+    let text = text_over(
+        rt.alloc(),
+        &[("file", OUTLINED.as_bytes())],
+        "print file",
+        "0\n",
+    );
+    text_is(&rt, text, OUTLINED, "outlined")
 }

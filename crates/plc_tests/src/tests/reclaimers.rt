@@ -3,7 +3,8 @@
 ghost use Rattle.std.specs.Prelude.{codes};
 
 use crate::tests::files::{Entries, PUT, PUT_AND_TAKE, TAKE, put, put_pieces, put_sections};
-use crate::tests::program::{answered, words_of, wrong_rows};
+use crate::tests::program::{answer, words_of, wrong_rows};
+use crate::tests::texts::{note, text_is, told};
 use plc_auto::{Event, Scheme};
 use plc_base::NoMemory;
 use plc_cli::{ByList, Leak, MemFiles, Reclaimer, VecSink, run};
@@ -102,8 +103,7 @@ fn wrong_answers(alloc: Global) -> Result<String, AllocError> {
 
 #[test]
 fn each_replay_has_its_end(rt: HostRuntime) -> Result<(), AllocError> {
-    assert_eq!(rt; wrong_answers(rt.alloc())?.as_str(), "");
-    Ok(())
+    text_is(&rt, wrong_answers(rt.alloc()), "", "replays")
 }
 
 // The number that is drawn after another.
@@ -143,41 +143,98 @@ fn next_of(at: u32, last: u32) -> u32 {
     if at == last { 0 } else { at.wrapping_add(1) }
 }
 
-// Three hundred moves in an order that a number draws: a thread puts and takes nodes, two others read, and
-// the reclaimer is asked now and then.
+// What is drawn next is told by a number; where the three threads are, and at which address the next node is put.
+#[derive(Clone, Copy)]
+struct Turns {
+    number: u32,
+    address: u32,
+    writer: u32,
+    first: u32,
+    second: u32,
+}
+
+// The next move: a thread puts and takes nodes, two others read, and the reclaimer is asked now and then.
+fn next_line(alloc: Global, turns: Turns, op: &str, last: u32) -> Result<String, AllocError> {
+    match turns.number / 536_870_912 {
+        0 | 1 => String::from_str(alloc, "tick\n"),
+        2 => reader_line(alloc, 1, turns.first, op, last),
+        3 => reader_line(alloc, 2, turns.second, op, last),
+        _ => writer_line(alloc, turns.writer, turns.address),
+    }
+}
+
+// Where that move leads.
+fn next_turns(turns: Turns, last: u32) -> Turns {
+    let mut next = turns;
+    match turns.number / 536_870_912 {
+        0 | 1 => {}
+        2 => next.first = next_of(turns.first, last),
+        3 => next.second = next_of(turns.second, last),
+        _ => {
+            next.writer = next_of(turns.writer, 11);
+            if next.writer == 0 {
+                next.address = turns.address.wrapping_add(1);
+            }
+        }
+    }
+    next.number = drawn_after(turns.number);
+    next
+}
+
+fn push_line(
+    alloc: Global,
+    text: &mut String,
+    turns: Turns,
+    op: &str,
+    last: u32,
+) -> Result<(), AllocError> {
+    let line = next_line(alloc, turns, op, last)?;
+    text.push_str(line.as_str())
+}
+
+// Three hundred moves in an order that a number draws.
+fn push_moves(
+    alloc: Global,
+    text: &mut String,
+    op: &str,
+    last: u32,
+    seed: u32,
+) -> Result<(), AllocError> {
+    let mut turns = Turns {
+        number: drawn_after(seed),
+        address: 1,
+        writer: 0,
+        first: 0,
+        second: 0,
+    };
+    for _ in 0..300 {
+        push_line(alloc, text, turns, op, last)?;
+        turns = next_turns(turns, last);
+    }
+    Ok(())
+}
+
 fn drawn_schedule(alloc: Global, op: &str, last: u32, seed: u32) -> Result<Vec<u8>, AllocError> {
     let mut text = String::from_str(alloc, "threads 3\n")?;
-    let mut number = seed;
-    let mut address = 1u32;
-    let mut writer = 0u32;
-    let mut first = 0u32;
-    let mut second = 0u32;
-    for _ in 0..300 {
-        number = drawn_after(number);
-        let line = match number / 536_870_912 {
-            0 | 1 => String::from_str(alloc, "tick\n")?,
-            2 => {
-                let line = reader_line(alloc, 1, first, op, last)?;
-                first = next_of(first, last);
-                line
-            }
-            3 => {
-                let line = reader_line(alloc, 2, second, op, last)?;
-                second = next_of(second, last);
-                line
-            }
-            _ => {
-                let line = writer_line(alloc, writer, address)?;
-                writer = next_of(writer, 11);
-                if writer == 0 {
-                    address = address.wrapping_add(1);
-                }
-                line
-            }
-        };
-        text.push_str(line.as_str())?;
-    }
+    push_moves(alloc, &mut text, op, last, seed)?;
     Ok(text.into_bytes())
+}
+
+fn put_drawn(
+    alloc: Global,
+    files: &mut Entries,
+    op: &str,
+    last: u32,
+    seed: u32,
+) -> Result<(), AllocError> {
+    let schedule = drawn_schedule(alloc, op, last, seed)?;
+    put(alloc, files, "drawn", schedule)
+}
+
+fn drawn_files(alloc: Global, op: &str, last: u32, seed: u32) -> Result<MemFiles, AllocError> {
+    let mut files = entries(alloc)?;
+    put_drawn(alloc, &mut files, op, last, seed)?;
+    Ok(MemFiles::new(alloc, files, Vec::new(alloc)))
 }
 
 // The answer to a replay of a drawn schedule.
@@ -188,16 +245,8 @@ fn drawn_answer(
     last: u32,
     seed: u32,
 ) -> Result<String, AllocError> {
-    let mut files = entries(alloc)?;
-    put(
-        alloc,
-        &mut files,
-        "drawn",
-        drawn_schedule(alloc, op, last, seed)?,
-    )?;
-    let mut files = MemFiles::new(alloc, files, Vec::new(alloc));
-    let words = words_of(alloc, words)?;
-    answered(alloc, &mut files, &words)
+    let mut files = drawn_files(alloc, op, last, seed)?;
+    answer(alloc, &mut files, words)
 }
 
 // A replay of a file with its operation that reads, how many lines that has, and whether it may end in a
@@ -213,26 +262,40 @@ const DRAWN: &[(&str, &str, u32, bool)] = &[
     ("replay epochs drawn epoch", "stay", 4, false),
 ];
 
+// Whether a replay has an end that it may have.
+fn may_end_so(answer: &str, may_be_forbidden: bool) -> bool {
+    let ended = answer.starts_with("0\nend lines ");
+    let forbidden = answer.starts_with("1\nforbidden free ");
+    ended || may_be_forbidden && forbidden
+}
+
+fn note_drawn(
+    alloc: Global,
+    wrong: &mut String,
+    row: (&str, &str, u32, bool),
+    seed: u32,
+) -> Result<(), AllocError> {
+    let (words, op, last, may_be_forbidden) = row;
+    let answer = drawn_answer(alloc, words, op, last, seed)?;
+    if may_end_so(answer.as_str(), may_be_forbidden) {
+        Ok(())
+    } else {
+        note(wrong, words, answer.as_str(), "that")
+    }
+}
+
 fn wrong_drawn(alloc: Global, seed: u32) -> Result<String, AllocError> {
     let mut wrong = String::new(alloc);
     for row in DRAWN {
-        let (words, op, last, may_be_forbidden) = *row;
-        let answer = drawn_answer(alloc, words, op, last, seed)?;
-        let text = answer.as_str();
-        let ended = text.starts_with("0\nend lines ");
-        let forbidden = text.starts_with("1\nforbidden free ");
-        if !ended && !(may_be_forbidden && forbidden) {
-            wrong.push_str(words)?;
-            wrong.push_str(text)?;
-        }
+        note_drawn(alloc, &mut wrong, *row, seed)?;
     }
     Ok(wrong)
 }
 
 #[test]
 fn a_drawn_schedule_ends_in_no_forbidden_free(rt: HostRuntime) -> Result<(), AllocError> {
-    for seed in [1, 2, 3, 5, 8] {
-        assert_eq!(rt; wrong_drawn(rt.alloc(), seed)?.as_str(), "", "{seed}");
+    for (seed, row) in [(1, "1"), (2, "2"), (3, "3"), (5, "5"), (8, "8")] {
+        text_is(&rt, wrong_drawn(rt.alloc(), seed), "", row)?;
     }
     Ok(())
 }
@@ -291,23 +354,33 @@ fn two(alloc: Global, list_is_first: bool) -> Result<Reclaimers, AllocError> {
     Ok(reclaimers)
 }
 
-// The status and then the text of `replay hazards held list`, where these reclaimers are handed in.
+// The status and then the text, where these reclaimers are handed in.
 fn answered_under(
     alloc: Global,
     files: &mut MemFiles,
+    words: &[String],
     reclaimers: Reclaimers,
 ) -> Result<String, AllocError> {
-    let words = words_of(alloc, "replay hazards held list")?;
     let mut out = VecSink::new(alloc);
-    let status = run(alloc, &words, files, &mut out, reclaimers);
-    let text = str::from_utf8(out.written()).unwrap_or("?");
-    format!(in alloc; "{status}\n{text}")
+    let status = run(alloc, words, files, &mut out, reclaimers);
+    told(alloc, status, out.written())
+}
+
+// The same under two.
+fn answered_under_two(
+    alloc: Global,
+    files: &mut MemFiles,
+    words: &[String],
+    list_is_first: bool,
+) -> Result<String, AllocError> {
+    let reclaimers = two(alloc, list_is_first)?;
+    answered_under(alloc, files, words, reclaimers)
 }
 
 fn answer_of_two(alloc: Global, list_is_first: bool) -> Result<String, AllocError> {
+    let words = words_of(alloc, "replay hazards held list")?;
     let mut files = some_files(alloc)?;
-    let reclaimers = two(alloc, list_is_first)?;
-    answered_under(alloc, &mut files, reclaimers)
+    answered_under_two(alloc, &mut files, &words, list_is_first)
 }
 
 #[test]
@@ -317,7 +390,7 @@ fn of_two_reclaimers_of_one_name_the_first_counts(rt: HostRuntime) -> Result<(),
         (false, "0\nend lines 17 events 4 freed 0\n"),
     ] {
         let (list_is_first, want) = *row;
-        assert_eq!(rt; answer_of_two(rt.alloc(), list_is_first)?.as_str(), want);
+        text_is(&rt, answer_of_two(rt.alloc(), list_is_first), want, want)?;
     }
     Ok(())
 }
