@@ -284,8 +284,8 @@ fn list_all(
     list_nodes(alloc, flow, outline, s)
 }
 
-/// What was made, unless listing its parts failed. Handed on by a call, a setting has one way out (docs/architecture.md,
-/// "How do I keep the gate short?").
+/// What was made, unless listing its parts failed. Handed on by a call, a setting has one way out, and is shown to be
+/// whole there once (docs/architecture.md, "How do I keep the gate short?").
 fn if_listed<T: Drop>(listed: Result<(), NoMemory>, made: T) -> Result<T, NoMemory>
     ensures made { IfOk result (λ r. r ≡ made) }
     ensures listed { IfOk result (λ _. IsOk listed) }

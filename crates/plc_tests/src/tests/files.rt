@@ -1,5 +1,6 @@
 // Files and schedules. A file is a section of a text: its name stands after `#`, its lines are the file. A schedule is
 // a name and the pieces of its text. Some files differ from others in a few lines, and some are made.
+use crate::tests::rows::OUTLINED;
 use plc_cli::MemFiles;
 use plc_testing::{EPOCHS, HAZARDS};
 use std::alloc::{AllocError, Global};
@@ -224,95 +225,6 @@ pub(crate) const CHANGED: &[(&str, &str, &[(usize, &str)])] = &[
         )],
     ),
 ];
-
-// The file of the stack with an outline, in the spelling that is printed.
-pub(crate) const OUTLINED: &str = "\
-struct Node {
-ptr next ;
-data val ;
-}
-shared Top ;
-call protect ( ptr ) ;
-use hazard ( protect ) ;
-ghost st {
-made , linked , cut }
-;
-ghost owner thread ;
-op push ( v ) {
-ptr n ;
-ptr t ;
-atomic {
-n := new ;
-ghost n . owner := me ;
-}
-n . val := v ;
-loop {
-t := Top ;
-n . next := t ;
-choose {
-atomic {
-n . next ?= Top ;
-ghost n . st := linked ;
-ghost n . owner := none ;
-Top := n ;
-n := null ;
-}
-return ;
-}
-or {
-}
-}
-}
-op pop ( ) {
-ptr t ;
-ptr s ;
-loop {
-t := Top ;
-if ( t == null ) {
-return ;
-}
-protect ( t ) ;
-choose {
-atomic {
-t ?= Top ;
-active t ;
-}
-s := t . next ;
-label d ;
-choose {
-label e ;
-atomic {
-active Top ;
-assume Top == t ;
-ghost t . st := cut ;
-ghost t . owner := me ;
-Top := s ;
-}
-label f ;
-retire ( active t ) ;
-return ;
-}
-or {
-atomic {
-active Top ;
-assume Top != t ;
-}
-}
-}
-or {
-}
-}
-}
-outline {\ninv Top == null or Top . st == linked ;
-inv all x : x . st != linked or not retired ( x ) ;
-inv all x , y : x . st != linked or x . next != y or y . st == linked ;
-inv all x : Top == null or x . st != linked or x . next != Top ;
-inv all x , y : x . st != linked or y . st != linked or x . next == null or x . next != y . next or x == y ;
-over push : n == null or n . st == made ;\nover push : n == null or n . owner == me ;
-over push : n == null or not retired ( n ) ;\nover pop : t == null or t . st != made ;
-at d , e : t != null ;\nat d , e : t . next == s ;
-at f : t . st == cut ;\nat f : t . owner == me ;\nat f : not retired ( t ) ;\n}
-";
 
 // What schedules share: thread 1 puts a node, takes it, whereupon the reclaimer is asked, and ends that
 // operation to put a node at the same address.

@@ -1,9 +1,9 @@
 // Whole answers of `run` over files in memory. That there is memory for an answer, and which bytes an
 // output is handed, is what no contract can say. `files.rt` has the files, and `rows.rt` the rows of answers.
 use crate::tests::files::{
-    Entries, FILES, Listed, OUTLINED, STACKS, files_of, put_changed, put_given, put_made, text_of,
+    Entries, FILES, Listed, STACKS, files_of, put_changed, put_given, put_made, text_of,
 };
-use crate::tests::rows::{CERTIFIED, CHECKED, PRINTED, REPLAYED, SUGGESTED, UNLISTED};
+use crate::tests::rows::{CERTIFIED, CHECKED, OUTLINED, PRINTED, REPLAYED, SUGGESTED, UNLISTED};
 use crate::tests::texts::{first_of, halves, note, on_one_line, text_is, text_under, told};
 use plc_cli::{FailSink, Files, MemFiles, VecSink, run_with_own};
 use std::alloc::{AllocError, Global};
