@@ -1,15 +1,11 @@
 -- Words of private functions: a setting while its lists are made.
 use Rattle.std.specs.Prelude.{[], ◌++◌}
-use Rattle.std.specs.List.{list_any}
-use Rattle.plc_lang.specs.Allocation.{is_new}
 use Rattle.plc_flow.specs.declared.flow.Flow.{Flow}
 use Rattle.plc_logic.specs.declared.clause.Outline.{Outline}
 use Rattle.plc_setting.specs.declared.obligations.Obligation.{Obligation}
 use Rattle.plc_setting.specs.declared.setting.Setting.{Setting}
 use Rattle.plc_setting.specs.declared.setting.Variables.{Variables}
-use Rattle.plc_setting.specs.Marks.{program_uses_marks}
-use Rattle.plc_setting.specs.Parts.{executed, has_owner, conclusion}
-use Rattle.plc_setting.specs.Setting.{bound_of}
+use Rattle.plc_setting.specs.Setting.{without_nodes}
 
 -- variables of which nothing is listed yet
 abbrev pub no_variables : Variables
@@ -25,18 +21,5 @@ no_nodes s = record s { pointers = []; constants = []; nodes = []; instances = [
 
 -- the setting of an obligation of which nothing is listed yet
 abbrev pub unlisted : Flow → Outline → Obligation → Setting
-unlisted flow outline o = record {
-  marked = program_uses_marks flow outline;
-  mine = no_variables;
-  theirs = no_variables;
-  owned = has_owner o;
-  acts = [];
-  makes = list_any is_new (executed flow o);
-  bound = bound_of (conclusion flow outline o);
-  pointers = [];
-  constants = [];
-  nodes = [];
-  instances = [];
-  fields = [];
-  marks = [];
-}
+unlisted flow outline o =
+    record (without_nodes flow outline o) { mine = no_variables; theirs = no_variables; acts = [] }

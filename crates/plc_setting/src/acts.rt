@@ -399,9 +399,9 @@ fn push_marked(
 /// Lists what primitives do, in their order, where it is known whether the program uses marks.
 pub fn push_acts(
     acts: &mut Items<Act>,
-    marked: bool,
     file: &File,
     variables: &Variables,
+    marked: bool,
     prims: &[Prim],
 ) -> Result<(), NoMemory>
     requires fits { FileFits file.now }

@@ -69,8 +69,8 @@ fn push_truths_and_threads(
 
 /// Lists the numbers of the file and its outline, ascending, each once.
 fn push_all_numbers(
-    list: &mut Items<Symbol>,
     alloc: Global,
+    list: &mut Items<Symbol>,
     flow: &Flow,
     outline: &Outline,
 ) -> Result<(), NoMemory>
@@ -83,8 +83,8 @@ fn push_all_numbers(
 
 /// Lists the constants of a setting, in order.
 fn push_constants(
-    list: &mut Items<Symbol>,
     alloc: Global,
+    list: &mut Items<Symbol>,
     flow: &Flow,
     outline: &Outline,
     s: &Setting,
@@ -101,7 +101,7 @@ fn push_constants(
     push_loads(list, s.acts.as_slice())?;
     push_truths_and_threads(list, s.marked, s.owned)?;
     push_values(list, count_values(flow.file.ghosts.as_slice()))?;
-    push_all_numbers(list, alloc, flow, outline)?;
+    push_all_numbers(alloc, list, flow, outline)?;
     push_all(list, s.marks.as_slice())
 }
 
@@ -117,6 +117,6 @@ pub fn constants_of(
     ensures { IfOk result (λ list. list ≡ constants_of flow.now outline.now s.now) }
 {
     let mut list = Items::new(alloc);
-    push_constants(&mut list, alloc, flow, outline, s)?;
+    push_constants(alloc, &mut list, flow, outline, s)?;
     Ok(list)
 }

@@ -4,11 +4,11 @@ ghost use Rattle.plc_base.specs.Limits.{most};
 ghost use Rattle.plc_base.specs.declared.limits.What1.TheVariants as limits;
 ghost use Rattle.plc_lang.specs.Numbering.{places_from};
 ghost use Rattle.plc_setting.specs.Fit.{Fits};
-ghost use Rattle.plc_setting.specs.Kinds.{is_kind};
+ghost use Rattle.plc_setting.specs.Unlisted.{no_variables, with_variables, no_nodes, unlisted};
 ghost use Rattle.plc_setting.specs.Setting.{local_symbol, variables_of, pointer_fields_from, bound_of, setting_of};
 ghost use Rattle.plc_setting.specs.Setting.{pointer_variables, mark_constants, without_nodes, with_nodes};
-ghost use Rattle.plc_setting.specs.Unlisted.{no_variables, with_variables, no_nodes, unlisted};
 ghost use Rattle.plc_setting.specs.Acts.{most_acts};
+ghost use Rattle.plc_setting.specs.Kinds.{is_kind};
 ghost use Rattle.plc_setting.specs.Marks.{program_uses_marks};
 
 use crate::acts::{Act, push_acts};
@@ -147,9 +147,9 @@ pub fn bound_of(clause: Option<&Clause>) -> u16
 /// Lists the pointer variables of all threads that there are.
 fn push_pointer_variables(
     list: &mut Items<Symbol>,
-    shared: usize,
     mine: &Variables,
     theirs: &Variables,
+    shared: usize,
 ) -> Result<(), NoMemory>
     requires { shared ≤ most limits.Shared }
     ensures { OnOk result (list.new ≡ list.old ++ pointer_variables shared mine.now theirs.now) }
@@ -193,7 +193,7 @@ fn push_all_nodes(
 {
     let deep = outline.depth == 1;
     push_pointer_loads(loaded, s.acts.as_slice())?;
-    push_pointer_variables(&mut s.pointers, flow.file.shared.len(), &s.mine, &s.theirs)?;
+    push_pointer_variables(&mut s.pointers, &s.mine, &s.theirs, flow.file.shared.len())?;
     push_pointer_fields(&mut s.fields, flow.file.fields.as_slice())?;
     let pointers = s.pointers.as_slice();
     let loads = loaded.as_slice();
@@ -223,13 +223,8 @@ fn list_nodes(
     push_all_nodes(flow, outline, s, &mut loaded, &mut plain)
 }
 
-/// Lists the variables of a setting of which nothing is listed yet, and what is executed.
-fn list_acts(
-    flow: &Flow,
-    outline: &Outline,
-    o: &Obligation,
-    s: &mut Setting,
-) -> Result<(), NoMemory>
+/// Lists the variables of a setting and what is executed, where nothing of it is listed yet.
+fn add_acts(flow: &Flow, outline: &Outline, o: &Obligation, s: &mut Setting) -> Result<(), NoMemory>
     requires fits { Fits flow.now outline.now }
     requires unlisted { s.old ≡ unlisted flow.now outline.now o.now }
     ensures { OnOk result (s.new ≡ without_nodes flow.now outline.now o.now) }
@@ -238,9 +233,9 @@ fn list_acts(
     push_variables(&mut s.theirs, owner_locals(flow, o), true)?;
     push_acts(
         &mut s.acts,
-        s.marked,
         &flow.file,
         &s.mine,
+        s.marked,
         executed(flow, o),
     )
 }
@@ -268,7 +263,7 @@ fn unlisted(alloc: Global, marked: bool, flow: &Flow, outline: &Outline, o: &Obl
     }
 }
 
-/// Lists what a setting has of which nothing is listed yet.
+/// Lists all that a setting has, where nothing of it is listed yet.
 fn list_all(
     alloc: Global,
     flow: &Flow,
@@ -280,7 +275,7 @@ fn list_all(
     requires unlisted { s.old ≡ unlisted flow.now outline.now o.now }
     ensures { OnOk result (s.new ≡ setting_of flow.now outline.now o.now) }
 {
-    list_acts(flow, outline, o, s)?;
+    add_acts(flow, outline, o, s)?;
     list_nodes(alloc, flow, outline, s)
 }
 

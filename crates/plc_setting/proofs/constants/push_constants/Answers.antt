@@ -27,9 +27,12 @@ returns c =
     let enumerated =
     follows _ _ _ _ _ c.in_ok-push_values.ensures (ap (λ n. map symbols.Value (below n)) values) threads in
     let numbers = follows _ _ _ _ _ c.in_ok-push_all_numbers.ensures refl enumerated in
-    let all = follows _ (c.push_all_numbers.new.list ++ c.as_slice-3.result.now) _ _ _ refl c.as_slice-3.ensures numbers in
+    let all =
+    follows _ (c.push_all_numbers.new.list ++ c.as_slice-3.result.now) _ _ _ refl c.as_slice-3.ensures numbers in
     let truths = symbols.Yes ∷ only_if s.marked (symbols.No ∷ []) in
     let people = symbols.Nobody ∷ symbols.Me ∷ only_if s.owned (symbols.You ∷ []) in
-    subst (λ (xs : List Symbol). OnOk c.push_all.result (c.push_all.new.list ≡ xs)) (all ∙ nine_runs (start ++ symbols.Null ∷ []) _ s.mine.pointers s.mine.values s.theirs.pointers s.theirs.values
-    (only_if s.makes (symbols.New ∷ [])) _ _ truths people _ _ _
-    ∙ append_assoc start (symbols.Null ∷ []) _) c.push_all.ensures
+    subst (λ (xs : List Symbol). OnOk c.push_all.result (c.push_all.new.list ≡ xs))
+    (all ∙ nine_runs (start ++ symbols.Null ∷ []) _ s.mine.pointers s.mine.values s.theirs.pointers
+    s.theirs.values (only_if s.makes (symbols.New ∷ [])) _ _ truths people _ _ _
+    ∙ append_assoc start (symbols.Null ∷ []) _)
+    c.push_all.ensures

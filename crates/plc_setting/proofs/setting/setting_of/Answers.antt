@@ -14,5 +14,6 @@ returns-clause-setting c =
 pub returns-clause-few : goal.returns-clause-few
 returns-clause-few c =
     made_listed _ _ _ _ (λ (s : Setting). length s.acts ≤ most_acts)
-    (λ e. acts_short c.args.flow.now c.args.outline.now c.args.o.now _ _ _ _ c.requires.fits refl (ap (λ (s : Setting). s.acts) e))
+    (λ e. acts_short c.args.flow.now c.args.outline.now c.args.o.now _ _ _ _ c.requires.fits refl
+    (ap (λ (s : Setting). s.acts) e))
     c.list_all-listed.ensures c.if_listed.ensures.made c.if_listed.ensures.listed

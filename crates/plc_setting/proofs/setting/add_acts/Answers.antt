@@ -1,5 +1,5 @@
 use Rattle.plc_setting.proofs.Fitting.{executed_sorted}
-use Rattle.plc_setting.proofs.setting.list_acts.Goals as goal
+use Rattle.plc_setting.proofs.setting.add_acts.Goals as goal
 
 pub push_acts-requires-clause-sorted : goal.push_acts-requires-clause-sorted
 push_acts-requires-clause-sorted c =
