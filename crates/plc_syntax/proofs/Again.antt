@@ -9,7 +9,7 @@ use Rattle.plc_syntax.specs.Trees as trees
 use Rattle.plc_syntax.specs.Trees.{Text, each_then, maybe_then}
 use Rattle.plc_syntax.specs.Forms as forms
 use Rattle.plc_syntax.specs.Forms.{Read, Next, ◌>>=◌, led, chosen, first_is, list_of}
-use Rattle.plc_syntax.proofs.Combinators.{Tokens, Spells, Reader}
+use Rattle.plc_syntax.proofs.Combinators.{Tokens, Spells, Fuelled}
 
 -- with so much fuel and more, this tree is read and these tokens are left
 pub record Gets {X : Type 0} (o : ℕ → Read X) (x : X) (r : Tokens) : Type 0 where
@@ -58,7 +58,7 @@ left_out next other at [] h = refl
 left_out next other at (t ∷ ts) h = ap (λ o. chosen o other (at + 1) ts) h
 
 -- a list, where each item is read before others of it
-module _ {X : Type 0} (s : Spells X) (begins : TokenKind → Bool) (item : Reader X)
+module _ {X : Type 0} (s : Spells X) (begins : TokenKind → Bool) (item : Fuelled X)
     (begun : (x : X) (q : Tokens) → first_is begins (s x q) ≡ true) (r : Tokens) (none : first_is begins r ≡ false)
     (each : (x : X) (at : ℕ) (xs : List X)
     → Gets (λ m. item m at (s x (each_then s xs r))) x (each_then s xs r)) where

@@ -16,8 +16,8 @@ use Rattle.plc_lex.specs.declared.token.Symbol.{Symbol as Punctuation}
 use Rattle.plc_lex.specs.Characters.{keyword_of, keywords}
 use Rattle.plc_lex.specs.Spelling.{IsKind, IsName}
 use Rattle.plc_syntax.specs.Trees.{Text, each_then}
-use Rattle.plc_syntax.specs.Forms.{Read, Pass, ◌>>=◌, ◌>>◌, Next, chosen, led, first_is, list_of, word_of, symbol_of}
-use Rattle.plc_syntax.specs.Forms.{name_next, name_of, name_and, number_next, number_of}
+use Rattle.plc_syntax.specs.Forms.{Read, Reader, Pass, ◌>>=◌, ◌>>◌, Next, chosen, led, first_is, list_of}
+use Rattle.plc_syntax.specs.Forms.{word_of, symbol_of, ended_by, name_next, name_of, name_and, number_next, number_of}
 
 abbrev pub Tokens : Type 0
 Tokens = List TokenKind
@@ -27,8 +27,8 @@ abbrev pub Spells : Type 0 → Type 0
 Spells X = X → Tokens → Tokens
 
 -- a reader with fuel
-abbrev pub Reader : Type 0 → Type 0
-Reader X = ℕ → ℕ → Tokens → Read X
+abbrev pub Fuelled : Type 0 → Type 0
+Fuelled X = ℕ → Reader X
 
 abbrev pub same : Tokens → Tokens
 same q = q
@@ -43,7 +43,7 @@ same_after [] r q h = h
 same_after (t ∷ p) r q h = (p ++ q, refl)
 
 -- a tree was read: after what was passed before, its tokens are those that were passed now
-pub record Whole {X : Type 0} (s : Spells X) (pre : Tokens → Tokens) (f : Reader X) (n at : ℕ) (ts : Tokens) (x : X)
+pub record Whole {X : Type 0} (s : Spells X) (pre : Tokens → Tokens) (f : Fuelled X) (n at : ℕ) (ts : Tokens) (x : X)
     (after : ℕ) (r : Tokens) : Type 0 where
   pub passed : Tokens
   pub split : ts ≡ passed ++ r
@@ -52,7 +52,7 @@ pub record Whole {X : Type 0} (s : Spells X) (pre : Tokens → Tokens) (f : Read
   pub alike : (m : ℕ) (q : Tokens) → n ≤ m → SameHead r q → f m at (passed ++ q) ≡ Ok (x, after, q)
 
 -- no tree was read: some tree goes on from what was passed
-pub record Stuck {X : Type 0} (s : Spells X) (pre : Tokens → Tokens) (f : Reader X) (n at : ℕ) (ts : Tokens)
+pub record Stuck {X : Type 0} (s : Spells X) (pre : Tokens → Tokens) (f : Fuelled X) (n at : ℕ) (ts : Tokens)
     (after : ℕ) : Type 0 where
   pub passed : Tokens
   pub left : Tokens
@@ -64,21 +64,21 @@ pub record Stuck {X : Type 0} (s : Spells X) (pre : Tokens → Tokens) (f : Read
   pub goes_on : (q : Tokens) → s tree q ≡ pre (passed ++ (rest ++ q))
   pub alike : (m : ℕ) (q : Tokens) → n ≤ m → SameHead left q → f m at (passed ++ q) ≡ Err after
 
-abbrev pub WholeOrStuck : {X : Type 0} → Spells X → (Tokens → Tokens) → Reader X → ℕ → ℕ → Tokens → Read X → Type 0
+abbrev pub WholeOrStuck : {X : Type 0} → Spells X → (Tokens → Tokens) → Fuelled X → ℕ → ℕ → Tokens → Read X → Type 0
 WholeOrStuck s pre f n at ts (Ok y) = Whole s pre f n at ts y.0 y.1 y.2
 WholeOrStuck s pre f n at ts (Err e) = Stuck s pre f n at ts e
 
 -- what was read, one of the two
-pub record Is {X : Type 0} (s : Spells X) (pre : Tokens → Tokens) (f : Reader X) (n at : ℕ) (ts : Tokens)
+pub record Is {X : Type 0} (s : Spells X) (pre : Tokens → Tokens) (f : Fuelled X) (n at : ℕ) (ts : Tokens)
     (o : Read X) : Type 0 where
   pub read : WholeOrStuck s pre f n at ts o
 
 -- with fuel for all of the tokens
-abbrev pub Law : {X : Type 0} → ℕ → Spells X → (Tokens → Tokens) → Reader X → Type 0
+abbrev pub Law : {X : Type 0} → ℕ → Spells X → (Tokens → Tokens) → Fuelled X → Type 0
 Law n s pre f = (at : ℕ) (ts : Tokens) → length ts < n → Is s pre f n at ts (f n at ts)
 
 -- with fuel for all but the first of the tokens, where there is one
-abbrev pub Early : {X : Type 0} → ℕ → Spells X → (Tokens → Tokens) → Reader X → Type 0
+abbrev pub Early : {X : Type 0} → ℕ → Spells X → (Tokens → Tokens) → Fuelled X → Type 0
 Early n s pre f = (at : ℕ) (t : TokenKind) (ts : Tokens) → length ts < n → Is s pre f n at (t ∷ ts) (f n at (t ∷ ts))
 
 nothing : (p r : Tokens) → [] ≡ p ++ r → p ≡ []
@@ -106,7 +106,7 @@ pub record Sample {X : Type 0} (s : Spells X) (pre : Tokens → Tokens) : Type 0
 
 module _ {X : Type 0} (n : ℕ) (s : Spells X) (pre : Tokens → Tokens) where
   -- the first token doesn't fit
-  refused : (f : Reader X) → Sample s pre → (at : ℕ) (ts : Tokens)
+  refused : (f : Fuelled X) → Sample s pre → (at : ℕ) (ts : Tokens)
       → ((m : ℕ) (q : Tokens) → n ≤ m → SameHead ts q → f m at q ≡ Err at) → Is s pre f n at ts (Err at)
   refused f x at ts alike = record {
     read = record {
@@ -123,7 +123,7 @@ module _ {X : Type 0} (n : ℕ) (s : Spells X) (pre : Tokens → Tokens) where
   }
 
   -- the first token is passed
-  step : (f g : Reader X) (at : ℕ) (t : TokenKind) (ts : Tokens) (o : Read X)
+  step : (f g : Fuelled X) (at : ℕ) (t : TokenKind) (ts : Tokens) (o : Read X)
       → ((m : ℕ) (q : Tokens) → n ≤ m → f m at (t ∷ q) ≡ g m (at + 1) q)
       → Is s (λ q. pre (t ∷ q)) g n (at + 1) ts o → Is s pre f n at (t ∷ ts) o
   step f g at t ts (Ok y) agree w = let h = w.read in record {
@@ -150,7 +150,7 @@ module _ {X : Type 0} (n : ℕ) (s : Spells X) (pre : Tokens → Tokens) where
   }
 
   -- at this first token a reader does as another
-  instead : (f g : Reader X) (at : ℕ) (ts : Tokens) (o : Read X)
+  instead : (f g : Fuelled X) (at : ℕ) (ts : Tokens) (o : Read X)
       → ((m : ℕ) (q : Tokens) → n ≤ m → SameHead ts q → f m at q ≡ g m at q)
       → Is s pre g n at ts o → Is s pre f n at ts o
   instead f g at ts (Ok y) agree w = let h = w.read in record {
@@ -178,7 +178,7 @@ module _ {X : Type 0} (n : ℕ) (s : Spells X) (pre : Tokens → Tokens) where
     };
   }
 
-  sample_of : (f : Reader X) (at : ℕ) (o : Read X) → Is s pre f n at [] o → Sample s pre
+  sample_of : (f : Fuelled X) (at : ℕ) (o : Read X) → Is s pre f n at [] o → Sample s pre
   sample_of f at (Ok y) w = let h = w.read in record {
     tree = y.0;
     rest = [];
@@ -192,7 +192,7 @@ module _ {X : Type 0} (n : ℕ) (s : Spells X) (pre : Tokens → Tokens) where
     goes_on = λ q. h.goes_on q ∙ ap (λ p. pre (p ++ (h.rest ++ q))) (nothing h.passed h.left h.split);
   }
 
-  sample : (f : Reader X) → 0 < n → Law n s pre f → Sample s pre
+  sample : (f : Fuelled X) → 0 < n → Law n s pre f → Sample s pre
   sample f l law = sample_of f 0 (f n 0 []) (law 0 [] l)
 
 pub fault : {X : Type 0} {n : ℕ} {s : Spells X} {pre : Tokens → Tokens} (x : X) (rest : Tokens)
@@ -212,12 +212,12 @@ early_fault {n = n} {s = s} {pre = pre} x rest fine goes at t ts l =
 -- what a form begins with, and what is read after it
 pub data Choice {X : Type 0} (n : ℕ) (s : Spells X) (pre : Tokens → Tokens) (next : ℕ → Next X)
     (t : TokenKind) : Type 0 where
-  takes : (g : Reader X) → ((m : ℕ) → next m t ≡ Some (λ at ts. g m at ts)) → Law n s (λ q. pre (t ∷ q)) g
+  takes : (g : Fuelled X) → ((m : ℕ) → next m t ≡ Some (λ at ts. g m at ts)) → Law n s (λ q. pre (t ∷ q)) g
       → Choice n s pre next t
   leaves : ((m : ℕ) → next m t ≡ None) → Choice n s pre next t
 
-module _ {X : Type 0} (n : ℕ) (s : Spells X) (pre : Tokens → Tokens) (next : ℕ → Next X) (other : Reader X) where
-  abbrev led_by : Reader X
+module _ {X : Type 0} (n : ℕ) (s : Spells X) (pre : Tokens → Tokens) (next : ℕ → Next X) (other : Fuelled X) where
+  abbrev led_by : Fuelled X
   led_by m at ts = led (next m) (other m at ts) at ts
 
   led_there : (at : ℕ) (t : TokenKind) (ts : Tokens) → length ts < n → Choice n s pre next t
@@ -236,13 +236,12 @@ module _ {X : Type 0} (n : ℕ) (s : Spells X) (pre : Tokens → Tokens) (next :
       instead n s pre led_by other at [] (other n at []) (λ m q k h. rw h refl) (law at [] l)
   led_all choices law at (t ∷ ts) l = led_there at t ts (omega arith) (choices t) (law at (t ∷ ts) l)
 
-pub led_law : {X : Type 0} {n : ℕ} {s : Spells X} {pre : Tokens → Tokens} {next : ℕ → Next X} {other : Reader X}
+pub led_law : {X : Type 0} {n : ℕ} {s : Spells X} {pre : Tokens → Tokens} {next : ℕ → Next X} {other : Fuelled X}
     → ((t : TokenKind) → Choice n s pre next t) → Law n s pre (λ m at ts. other m at ts)
     → Law n s pre (λ m at ts. led (next m) (other m at ts) at ts)
-led_law {n = n} {s = s} {pre = pre} {next = next} {other = other} choices law =
-    led_all n s pre next other choices law
+led_law {n = n} {s = s} {pre = pre} {next = next} {other = other} choices law = led_all n s pre next other choices law
 
-pub early_led : {X : Type 0} {n : ℕ} {s : Spells X} {pre : Tokens → Tokens} {next : ℕ → Next X} {other : Reader X}
+pub early_led : {X : Type 0} {n : ℕ} {s : Spells X} {pre : Tokens → Tokens} {next : ℕ → Next X} {other : Fuelled X}
     → ((t : TokenKind) → Choice n s pre next t) → Early n s pre (λ m at ts. other m at ts)
     → Early n s pre (λ m at ts. led (next m) (other m at ts) at ts)
 early_led {n = n} {s = s} {pre = pre} {next = next} {other = other} choices law at t ts l =
@@ -251,8 +250,8 @@ early_led {n = n} {s = s} {pre = pre} {next = next} {other = other} choices law 
 -- ---- one form after another
 
 module _ {A X : Type 0} (n : ℕ) (sA : Spells A) (preA : Tokens → Tokens) (s : Spells X) (c : Tokens → Tokens)
-    (fA : Reader A) (g : A → Reader X) where
-  abbrev after : Reader X
+    (fA : Fuelled A) (g : A → Fuelled X) where
+  abbrev after : Fuelled X
   after m at ts = fA m at ts >>= λ a at ts. g a m at ts
 
   pub joined : (at : ℕ) (ts : Tokens) (a : A) (at1 : ℕ) (r1 : Tokens) → Whole sA preA fA n at ts a at1 r1
@@ -322,20 +321,20 @@ module _ {A X : Type 0} (n : ℕ) (sA : Spells A) (preA : Tokens → Tokens) (s 
   then_after first law at ts l = both at ts l (fA n at ts) (first at ts l) law
 
 -- a form with all its tokens, and then another
-pub then_form : {A X : Type 0} {n : ℕ} {sA : Spells A} {s : Spells X} {c : Tokens → Tokens} {fA : Reader A}
-    {g : A → Reader X} → Law n sA same fA → ((a : A) → Law n s (λ q. c (sA a q)) (λ m at ts. g a m at ts))
+pub then_form : {A X : Type 0} {n : ℕ} {sA : Spells A} {s : Spells X} {c : Tokens → Tokens} {fA : Fuelled A}
+    {g : A → Fuelled X} → Law n sA same fA → ((a : A) → Law n s (λ q. c (sA a q)) (λ m at ts. g a m at ts))
     → Law n s c (λ m at ts. fA m at ts >>= λ a at ts. g a m at ts)
 then_form {n = n} {sA = sA} {s = s} {c = c} {fA = fA} {g = g} first law = then_after n sA same s c fA g first law
 
 -- a form of which some tokens were passed, and then what is made of it
-pub then_whole : {A X : Type 0} {n : ℕ} {sA : Spells A} {pre : Tokens → Tokens} {s : Spells X} {fA : Reader A}
-    {g : A → Reader X} → Law n sA pre fA → ((a : A) → Law n s (λ q. sA a q) (λ m at ts. g a m at ts))
+pub then_whole : {A X : Type 0} {n : ℕ} {sA : Spells A} {pre : Tokens → Tokens} {s : Spells X} {fA : Fuelled A}
+    {g : A → Fuelled X} → Law n sA pre fA → ((a : A) → Law n s (λ q. sA a q) (λ m at ts. g a m at ts))
     → Law n s pre (λ m at ts. fA m at ts >>= λ a at ts. g a m at ts)
 then_whole {n = n} {sA = sA} {pre = pre} {s = s} {fA = fA} {g = g} first law =
     then_after n sA pre s same fA g first law
 
 -- the same with more before
-pub within : {X : Type 0} {n : ℕ} {s : Spells X} {f : Reader X} (c : Tokens → Tokens) → Law n s same f
+pub within : {X : Type 0} {n : ℕ} {s : Spells X} {f : Fuelled X} (c : Tokens → Tokens) → Law n s same f
     → Law n (λ x q. c (s x q)) c f
 within {X = X} {n = n} {s = s} {f = f} c law at ts l = by (f n at ts) (law at ts l)
   where
@@ -402,7 +401,7 @@ PassesAlone k pass t = (b : Bool) × (b ≡ true → t ≡ k)
     × ((at : ℕ) (q : Tokens) → pass at (t ∷ q) ≡ cond b (Ok (at + 1, q)) (Err at))
 
 -- such a reader, and then the rest
-module _ {X : Type 0} {n : ℕ} {s : Spells X} {pre : Tokens → Tokens} {g : Reader X} (k : TokenKind) (fine : IsKind k)
+module _ {X : Type 0} {n : ℕ} {s : Spells X} {pre : Tokens → Tokens} {g : Fuelled X} (k : TokenKind) (fine : IsKind k)
     (pass : ℕ → Tokens → Pass) (none : (at : ℕ) → pass at [] ≡ Err at) (first : (t : TokenKind) → PassesAlone k pass t)
     (law : Law n s (λ q. pre (k ∷ q)) g) where
   other_token : (at : ℕ) (ts : Tokens) → 0 < n → ((q : Tokens) → SameHead ts q → pass at q ≡ Err at)
@@ -422,7 +421,7 @@ module _ {X : Type 0} {n : ℕ} {s : Spells X} {pre : Tokens → Tokens} {g : Re
       ]
 
 -- a symbol, and then the rest
-pub then_symbol : {X : Type 0} {n : ℕ} {s : Spells X} {pre : Tokens → Tokens} {g : Reader X} (k : Punctuation)
+pub then_symbol : {X : Type 0} {n : ℕ} {s : Spells X} {pre : Tokens → Tokens} {g : Fuelled X} (k : Punctuation)
     → Law n s (λ q. pre (Symbol k ∷ q)) (λ m at ts. g m at ts)
     → Law n s pre (λ m at ts. symbol_of k at ts >> λ at ts. g m at ts)
 then_symbol k law = then_token (Symbol k) tt (symbol_of k) (λ at. refl) first law
@@ -434,7 +433,7 @@ then_symbol k law = then_token (Symbol k) tt (symbol_of k) (λ at. refl) first l
     first _ = (false, λ e. cc, λ at q. refl)
 
 -- a word, and then the rest
-pub then_word : {X : Type 0} {n : ℕ} {s : Spells X} {pre : Tokens → Tokens} {g : Reader X} (k : Keyword)
+pub then_word : {X : Type 0} {n : ℕ} {s : Spells X} {pre : Tokens → Tokens} {g : Fuelled X} (k : Keyword)
     → Law n s (λ q. pre (Word k ∷ q)) (λ m at ts. g m at ts)
     → Law n s pre (λ m at ts. word_of k at ts >> λ at ts. g m at ts)
 then_word k law = then_token (Word k) tt (word_of k) (λ at. refl) first law
@@ -464,10 +463,14 @@ name_choice _ = leaves (λ m. refl)
 pub name_law : {n : ℕ} → Law n name_then same (λ m at ts. name_of at ts)
 name_law = led_law name_choice (fault a_name (Name a_name ∷ []) (a_name_fits, tt) (λ q. refl))
 
+-- a form and the symbol that ends it
+pub ended_by_law : {X : Type 0} {n : ℕ} {s : Spells X} {f : Fuelled X} (k : Punctuation)
+    → Law n s same (λ m at ts. f m at ts) → Law n (λ x q. s x (Symbol k ∷ q)) same (λ m at ts. ended_by k (f m) at ts)
+ended_by_law k law = then_form law (λ x. then_symbol k (last (λ q. refl)))
+
 -- a name and the symbol after it
-pub name_and_law : {n : ℕ} (k : Punctuation)
-    → Law n (λ name q. Name name ∷ Symbol k ∷ q) same (λ m at ts. name_and k at ts)
-name_and_law k = then_form name_law (λ name. then_symbol k (last (λ q. refl)))
+pub name_and_law : {n : ℕ} (k : Punctuation) → Law n (λ x q. Name x ∷ Symbol k ∷ q) same (λ m at ts. name_and k at ts)
+name_and_law k = ended_by_law k name_law
 
 abbrev pub number_then : Spells ℕ
 number_then k q = Number k ∷ q
@@ -488,7 +491,7 @@ shorter [] ts r some e = absurd (some refl)
 shorter (t ∷ p) ts r some e = let whole = ap length e in omega (arith, length-append p r)
 
 -- with one fuel less a reader does as another
-lifted : {X : Type 0} (n : ℕ) (s : Spells X) (f g : Reader X) (at : ℕ) (ts : Tokens) (o : Read X)
+lifted : {X : Type 0} (n : ℕ) (s : Spells X) (f g : Fuelled X) (at : ℕ) (ts : Tokens) (o : Read X)
     → ((m : ℕ) (q : Tokens) → SameHead ts q → f (suc m) at q ≡ g m at q) → Is s same g n at ts o
     → Is s same f (suc n) at ts o
 lifted {X = X} n s f g at ts (Ok y) agree w = let h = w.read in record {
@@ -526,15 +529,15 @@ lifted {X = X} n s f g at ts (Err at') agree w = let h = w.read in record {
 
 -- X is an item's tree, Y that of a list: an item takes a token, and with one fuel less the others are read
 module _ {X Y : Type 0} (s : Spells X) (cons : X → Y → Y) (nil : Y) (list : Spells Y) (begins : TokenKind → Bool)
-    (item : Reader X) (items : Reader Y) (empty : (q : Tokens) → list nil q ≡ q)
+    (item : Fuelled X) (items : Fuelled Y) (empty : (q : Tokens) → list nil q ≡ q)
     (more : (x : X) (y : Y) (q : Tokens) → list (cons x y) q ≡ s x (list y q))
     (begun : (x : X) (q : Tokens) → first_is begins (s x q) ≡ true)
     (next : (m at : ℕ) (ts : Tokens) → items (suc m) at ts ≡ cond (first_is begins ts)
     (item m at ts >>= λ x at ts. items m at ts >>= λ y at ts. Ok (cons x y, at, ts)) (Ok (nil, at, ts))) where
-  abbrev others : X → Reader Y
+  abbrev others : X → Fuelled Y
   others x m at ts = items m at ts >>= λ y at ts. Ok (cons x y, at, ts)
 
-  abbrev goes : Reader Y
+  abbrev goes : Fuelled Y
   goes m at ts = item m at ts >>= λ x at ts. others x m at ts
 
   takes_some : (x : X) → s x [] ≡ [] → ⊥
@@ -587,7 +590,7 @@ module _ {X Y : Type 0} (s : Spells X) (cons : X → Y → Y) (nil : Y) (list : 
     listed law at (t ∷ ts) l = by_first at t ts (omega arith) (begins t) refl (law at t ts (omega arith))
 
 -- a list whose items are read one by one
-pub list_law : {X : Type 0} {s : Spells X} {item : Reader X} (begins : TokenKind → Bool)
+pub list_law : {X : Type 0} {s : Spells X} {item : Fuelled X} (begins : TokenKind → Bool)
     → ((x : X) (q : Tokens) → first_is begins (s x q) ≡ true) → ((n : ℕ) → Early n s same item) → (n : ℕ)
     → Law n (λ xs q. each_then s xs q) same (λ m at ts. list_of begins item m at ts)
 unfolding list_of

@@ -17,7 +17,7 @@ use Rattle.plc_syntax.specs.Trees.{Text, maybe_then, word_if_then}
 use Rattle.plc_syntax.specs.Forms as forms
 use Rattle.plc_syntax.proofs.Combinators.{Spells, same, Law, Choice, takes, leaves, last, fault, led_law, then_form}
 use Rattle.plc_syntax.proofs.Combinators.{then_whole, within, then_symbol, then_word, a_name, a_name_fits, name_law}
-use Rattle.plc_syntax.proofs.Combinators.{name_and_law, number_law}
+use Rattle.plc_syntax.proofs.Combinators.{ended_by_law, name_and_law, number_law}
 
 -- ---- places and values
 
@@ -186,7 +186,7 @@ primitive_law : {n : ℕ} → Law n trees.primitive_then same (λ m at ts. forms
 primitive_law = led_law primitive_choice (fault trees.SkipPrimitive (Word Skip ∷ []) (tt, tt) (λ q. refl))
 
 pub primitive_line_law : (n : ℕ) → Law n trees.primitive_line_then same (λ m at ts. forms.primitive_line_of at ts)
-primitive_line_law n = then_form primitive_law (λ p. then_symbol Semicolon (last (λ q. refl)))
+primitive_line_law n = ended_by_law Semicolon primitive_law
 
 -- ---- the assignments of `init`
 

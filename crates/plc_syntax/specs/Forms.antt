@@ -33,38 +33,42 @@ use Rattle.plc_syntax.specs.Trees.{EqualityLiteral, BoundTree, NoBound, AllOf}
 abbrev pub Read : Type 0 → Type 0
 Read X = Result (X × ℕ × List TokenKind) ℕ
 
+-- what reads a form, from a place and the tokens from there on
+abbrev pub Reader : Type 0 → Type 0
+Reader X = ℕ → List TokenKind → Read X
+
 -- a place and the tokens from there on, or the place of the fault
 abbrev pub Pass : Type 0
 Pass = Result (ℕ × List TokenKind) ℕ
 
 infixl 10 ◌>>=◌
 -- what is read after what was read, if no fault came
-abbrev pub ◌>>=◌ : {A B : Type 0} → Read A → (A → ℕ → List TokenKind → Read B) → Read B
+abbrev pub ◌>>=◌ : {A B : Type 0} → Read A → (A → Reader B) → Read B
 (Ok x) >>= next = next x.0 x.1 x.2
 (Err at) >>= next = Err at
 
 infixl 10 ◌>>◌
 -- what is read after a token that was passed
-abbrev pub ◌>>◌ : {B : Type 0} → Pass → (ℕ → List TokenKind → Read B) → Read B
+abbrev pub ◌>>◌ : {B : Type 0} → Pass → Reader B → Read B
 (Ok a) >> next = next a.0 a.1
 (Err at) >> next = Err at
 
 -- what is read after a first token, none where the token doesn't begin it
 abbrev pub Next : Type 0 → Type 0
-Next X = TokenKind → Option (ℕ → List TokenKind → Read X)
+Next X = TokenKind → Option (Reader X)
 
 -- what is read after the first token, and something else where it begins nothing
-abbrev pub chosen : {X : Type 0} → Option (ℕ → List TokenKind → Read X) → Read X → ℕ → List TokenKind → Read X
+abbrev pub chosen : {X : Type 0} → Option (Reader X) → Read X → Reader X
 chosen None other at ts = other
 chosen (Some next) other at ts = next at ts
 
 -- what the first token decides, and something else where there is none or it begins nothing
-abbrev pub led : {X : Type 0} → Next X → Read X → ℕ → List TokenKind → Read X
+abbrev pub led : {X : Type 0} → Next X → Read X → Reader X
 led next other at [] = other
 led next other at (t ∷ ts) = chosen (next t) other (at + 1) ts
 
 -- the first token alone is read
-abbrev pub alone : {X : Type 0} → X → Option (ℕ → List TokenKind → Read X)
+abbrev pub alone : {X : Type 0} → X → Option (Reader X)
 alone x = Some (λ at ts. Ok (x, at, ts))
 
 -- whether a first token is one of those that begin something
@@ -73,8 +77,7 @@ first_is begins [] = false
 first_is begins (t ∷ ts) = begins t
 
 -- items while one begins; at most so many
-unfoldable pub list_of : {X : Type 0} → (TokenKind → Bool) → (ℕ → ℕ → List TokenKind → Read X) → ℕ → ℕ
-    → List TokenKind → Read (List X)
+unfoldable pub list_of : {X : Type 0} → (TokenKind → Bool) → (ℕ → Reader X) → ℕ → Reader (List X)
 list_of begins item zero at ts = Err at
 list_of begins item (suc n) at ts = cond (first_is begins ts)
     (item n at ts >>= λ x at ts. list_of begins item n at ts >>= λ xs at ts. Ok (x ∷ xs, at, ts)) (Ok ([], at, ts))
@@ -89,30 +92,34 @@ abbrev pub symbol_of : Punctuation → ℕ → List TokenKind → Pass
 symbol_of symbol at (Symbol found ∷ ts) = if sameb punctuation.the_type found symbol then Ok (at + 1, ts) else Err at
 symbol_of symbol at ts = Err at
 
+-- a form and the symbol that ends it
+abbrev pub ended_by : {X : Type 0} → Punctuation → Reader X → Reader X
+ended_by end form at ts = form at ts >>= λ x at ts. symbol_of end at ts >> λ at ts. Ok (x, at, ts)
+
 abbrev pub word_if_next : Keyword → Next Bool
 word_if_next word (Word found) = if sameb keyword.the_type found word then alone true else None
 word_if_next word _ = None
 
 -- whether the word stands there, which may be left out
-abbrev pub word_if_of : Keyword → ℕ → List TokenKind → Read Bool
+abbrev pub word_if_of : Keyword → Reader Bool
 word_if_of word at ts = led (word_if_next word) (Ok (false, at, ts)) at ts
 
 abbrev pub name_next : Next Text
 name_next (Name n) = alone n
 name_next _ = None
 
-abbrev pub name_of : ℕ → List TokenKind → Read Text
+abbrev pub name_of : Reader Text
 name_of at ts = led name_next (Err at) at ts
 
 -- a name and the symbol after it
-abbrev pub name_and : Punctuation → ℕ → List TokenKind → Read Text
-name_and symbol at ts = name_of at ts >>= λ n at ts. symbol_of symbol at ts >> λ at ts. Ok (n, at, ts)
+abbrev pub name_and : Punctuation → Reader Text
+name_and symbol at ts = ended_by symbol name_of at ts
 
 abbrev pub number_next : Next ℕ
 number_next (Number n) = alone n
 number_next _ = None
 
-abbrev pub number_of : ℕ → List TokenKind → Read ℕ
+abbrev pub number_of : Reader ℕ
 number_of at ts = led number_next (Err at) at ts
 
 -- ---- names after a comma
@@ -121,7 +128,7 @@ abbrev pub comma_name_next : Next Text
 comma_name_next (Symbol Comma) = Some (λ at ts. name_of at ts)
 comma_name_next _ = None
 
-abbrev pub comma_name_of : ℕ → List TokenKind → Read Text
+abbrev pub comma_name_of : Reader Text
 comma_name_of at ts = led comma_name_next (Err at) at ts
 
 -- ---- places and values
@@ -131,10 +138,10 @@ dot_next n (Symbol Dot) = Some (λ at ts. name_of at ts >>= λ f at ts. Ok (Plac
 dot_next n _ = None
 
 -- a place, from after its name
-abbrev pub place_of_name : Text → ℕ → List TokenKind → Read PlaceTree
+abbrev pub place_of_name : Text → Reader PlaceTree
 place_of_name n at ts = led (dot_next n) (Ok (PlaceOf n None, at, ts)) at ts
 
-abbrev pub place_of : ℕ → List TokenKind → Read PlaceTree
+abbrev pub place_of : Reader PlaceTree
 place_of at ts = name_of at ts >>= λ n at ts. place_of_name n at ts
 
 abbrev pub value_next : Next ValueTree
@@ -146,7 +153,7 @@ value_next (Word Unmark) = Some (λ at ts. name_of at ts >>= λ n at ts. Ok (Unm
 value_next (Name n) = Some (λ at ts. place_of_name n at ts >>= λ p at ts. Ok (PlaceValue p, at, ts))
 value_next _ = None
 
-abbrev pub value_of : ℕ → List TokenKind → Read ValueTree
+abbrev pub value_of : Reader ValueTree
 value_of at ts = led value_next (Err at) at ts
 
 abbrev pub atom_next : Next AtomTree
@@ -155,7 +162,7 @@ atom_next (Number k) = alone (NumberAtom k)
 atom_next (Name n) = alone (NameAtom n)
 atom_next _ = None
 
-abbrev pub atom_of : ℕ → List TokenKind → Read AtomTree
+abbrev pub atom_of : Reader AtomTree
 atom_of at ts = led atom_next (Err at) at ts
 
 abbrev pub ghost_value_next : Next GhostValueTree
@@ -164,7 +171,7 @@ ghost_value_next (Word Me) = alone MeGhost
 ghost_value_next (Word NoneWord) = alone NoneGhost
 ghost_value_next _ = None
 
-abbrev pub ghost_value_of : ℕ → List TokenKind → Read GhostValueTree
+abbrev pub ghost_value_of : Reader GhostValueTree
 ghost_value_of at ts = led ghost_value_next (Err at) at ts
 
 -- ---- tests and conditions
@@ -176,11 +183,11 @@ comparison_next (Symbol Less) = alone LessThan
 comparison_next (Symbol AtLeast) = alone NotLessThan
 comparison_next _ = None
 
-abbrev pub comparison_of : ℕ → List TokenKind → Read Comparison
+abbrev pub comparison_of : Reader Comparison
 comparison_of at ts = led comparison_next (Err at) at ts
 
 -- a comparison, from after its name
-abbrev pub compared_of : Text → ℕ → List TokenKind → Read TestTree
+abbrev pub compared_of : Text → Reader TestTree
 compared_of n at ts =
     comparison_of at ts >>= λ c at ts. atom_of at ts >>= λ a at ts. Ok (Compares n c a, at, ts)
 
@@ -190,7 +197,7 @@ test_next (Word Unmarked) = Some (λ at ts. name_of at ts >>= λ n at ts. Ok (Un
 test_next (Name n) = Some (λ at ts. compared_of n at ts)
 test_next _ = None
 
-abbrev pub test_of : ℕ → List TokenKind → Read TestTree
+abbrev pub test_of : Reader TestTree
 test_of at ts = led test_next (Err at) at ts
 
 abbrev pub name_or_null_next : Next (Option Text)
@@ -198,17 +205,17 @@ name_or_null_next (Name n) = alone (Some n)
 name_or_null_next (Word Null) = alone None
 name_or_null_next _ = None
 
-abbrev pub name_or_null_of : ℕ → List TokenKind → Read (Option Text)
+abbrev pub name_or_null_of : Reader (Option Text)
 name_or_null_of at ts = led name_or_null_next (Err at) at ts
 
 -- the three pointers of a cas and the parenthesis after them
-abbrev pub cas_of : Bool → ℕ → List TokenKind → Read ConditionTree
+abbrev pub cas_of : Bool → Reader ConditionTree
 cas_of is_active at ts = name_and Comma at ts >>= λ n at ts. name_or_null_of at ts >>= λ old at ts.
     symbol_of Comma at ts >> λ at ts. name_or_null_of at ts >>= λ new at ts.
     symbol_of CloseParen at ts >> λ at ts. Ok (CasCondition is_active n old new, at, ts)
 
 -- a cas, from after its word
-abbrev pub cas_condition_of : ℕ → List TokenKind → Read ConditionTree
+abbrev pub cas_condition_of : Reader ConditionTree
 cas_condition_of at ts =
     symbol_of OpenParen at ts >> λ at ts. word_if_of Active at ts >>= λ w at ts. cas_of w at ts
 
@@ -218,7 +225,7 @@ named_condition_next n (Symbol Refresh) =
 named_condition_next n _ = None
 
 -- a condition, from after its name
-abbrev pub named_condition_of : Text → ℕ → List TokenKind → Read ConditionTree
+abbrev pub named_condition_of : Text → Reader ConditionTree
 named_condition_of n at ts = led (named_condition_next n)
     (compared_of n at ts >>= λ t at ts. Ok (TestCondition t, at, ts)) at ts
 
@@ -227,7 +234,7 @@ condition_next (Word Cas) = Some (λ at ts. cas_condition_of at ts)
 condition_next (Name n) = Some (λ at ts. named_condition_of n at ts)
 condition_next _ = None
 
-abbrev pub condition_of : ℕ → List TokenKind → Read ConditionTree
+abbrev pub condition_of : Reader ConditionTree
 condition_of at ts = led condition_next (test_of at ts >>= λ t at ts. Ok (TestCondition t, at, ts)) at ts
 
 -- ---- primitives
@@ -240,7 +247,7 @@ field_tail_next n f (Symbol Refresh) =
 field_tail_next n f _ = None
 
 -- what follows a name and a dot on the left
-abbrev pub field_tail_of : Text → ℕ → List TokenKind → Read PrimitiveTree
+abbrev pub field_tail_of : Text → Reader PrimitiveTree
 field_tail_of n at ts = name_of at ts >>= λ f at ts. led (field_tail_next n f) (Err at) at ts
 
 abbrev pub named_tail_next : Text → Next PrimitiveTree
@@ -252,11 +259,11 @@ named_tail_next n (Symbol Dot) = Some (λ at ts. field_tail_of n at ts)
 named_tail_next n _ = None
 
 -- what follows a name on the left
-abbrev pub named_tail_of : Text → ℕ → List TokenKind → Read PrimitiveTree
+abbrev pub named_tail_of : Text → Reader PrimitiveTree
 named_tail_of n at ts = led (named_tail_next n) (Err at) at ts
 
 -- an assignment to an auxiliary field, from after its word
-abbrev pub ghost_set_of : ℕ → List TokenKind → Read GhostSetTree
+abbrev pub ghost_set_of : Reader GhostSetTree
 ghost_set_of at ts = name_and Dot at ts >>= λ n at ts. name_and Assign at ts >>= λ g at ts.
     ghost_value_of at ts >>= λ v at ts. Ok (SetGhost n g v, at, ts)
 
@@ -268,16 +275,16 @@ primitive_next (Word Assume) = Some (λ at ts. test_of at ts >>= λ t at ts. Ok 
 primitive_next (Word Skip) = alone SkipPrimitive
 primitive_next _ = None
 
-abbrev pub primitive_of : ℕ → List TokenKind → Read PrimitiveTree
+abbrev pub primitive_of : Reader PrimitiveTree
 primitive_of at ts = led primitive_next (Err at) at ts
 
-abbrev pub primitive_line_of : ℕ → List TokenKind → Read PrimitiveTree
-primitive_line_of at ts = primitive_of at ts >>= λ p at ts. symbol_of Semicolon at ts >> λ at ts. Ok (p, at, ts)
+abbrev pub primitive_line_of : Reader PrimitiveTree
+primitive_line_of at ts = ended_by Semicolon primitive_of at ts
 
 -- ---- the assignments of `init`
 
 -- an assignment to a field, from after the dot
-abbrev pub set_field_of : Text → ℕ → List TokenKind → Read SetTree
+abbrev pub set_field_of : Text → Reader SetTree
 set_field_of n at ts = name_and Assign at ts >>= λ f at ts. atom_of at ts >>= λ a at ts. Ok (SetField n f a, at, ts)
 
 abbrev pub set_next : Text → Next SetTree
@@ -286,7 +293,7 @@ set_next n (Symbol Dot) = Some (λ at ts. set_field_of n at ts)
 set_next n _ = None
 
 -- an assignment, from after its first name
-abbrev pub set_of_name : Text → ℕ → List TokenKind → Read SetTree
+abbrev pub set_of_name : Text → Reader SetTree
 set_of_name n at ts = led (set_next n) (Err at) at ts
 
 abbrev pub initial_next : Next InitialTree
@@ -296,7 +303,7 @@ initial_next (Word Ghost) = Some (λ at ts. ghost_set_of at ts >>= λ g at ts.
     symbol_of Semicolon at ts >> λ at ts. Ok (InitialGhost g, at, ts))
 initial_next _ = None
 
-abbrev pub initial_of : ℕ → List TokenKind → Read InitialTree
+abbrev pub initial_of : Reader InitialTree
 initial_of at ts = led initial_next (Err at) at ts
 
 -- ---- calls
@@ -307,7 +314,7 @@ argument_next (Name n) = alone (NameArgument n)
 argument_next (Word Active) = Some (λ at ts. name_of at ts >>= λ n at ts. Ok (ActiveArgument n, at, ts))
 argument_next _ = None
 
-abbrev pub argument_of : ℕ → List TokenKind → Read ArgumentTree
+abbrev pub argument_of : Reader ArgumentTree
 argument_of at ts = led argument_next (Ok (NoArgument, at, ts)) at ts
 
 abbrev pub during_next : Next (Option Text)
@@ -315,7 +322,7 @@ during_next (Word During) = Some (λ at ts. name_of at ts >>= λ n at ts. Ok (So
 during_next _ = None
 
 -- "during" and a label, which may be left out
-abbrev pub during_of : ℕ → List TokenKind → Read (Option Text)
+abbrev pub during_of : Reader (Option Text)
 during_of at ts = led during_next (Ok (None, at, ts)) at ts
 
 -- ---- declarations
@@ -325,24 +332,24 @@ field_next (Word Ptr) = Some (λ at ts. name_and Semicolon at ts >>= λ n at ts.
 field_next (Word Data) = Some (λ at ts. name_and Semicolon at ts >>= λ n at ts. Ok (DataField n, at, ts))
 field_next _ = None
 
-abbrev pub field_of : ℕ → List TokenKind → Read FieldTree
+abbrev pub field_of : Reader FieldTree
 field_of at ts = led field_next (Err at) at ts
 
-abbrev pub shared_of : ℕ → List TokenKind → Read Text
+abbrev pub shared_of : Reader Text
 shared_of at ts = word_of Shared at ts >> λ at ts. name_and Semicolon at ts
 
-abbrev pub function_of : ℕ → List TokenKind → Read FunctionTree
+abbrev pub function_of : Reader FunctionTree
 function_of at ts = word_of Call at ts >> λ at ts. name_and OpenParen at ts >>= λ n at ts.
     word_if_of Ptr at ts >>= λ w at ts.
     symbol_of CloseParen at ts >> λ at ts. symbol_of Semicolon at ts >> λ at ts. Ok (Declares n w, at, ts)
 
 -- a function of hazard pointers, from after its word
-abbrev pub hazard_of : ℕ → List TokenKind → Read WatchTree
+abbrev pub hazard_of : Reader WatchTree
 hazard_of at ts = symbol_of OpenParen at ts >> λ at ts. name_and CloseParen at ts >>= λ f at ts.
     symbol_of Semicolon at ts >> λ at ts. Ok (UseHazard f, at, ts)
 
 -- two functions of epochs, from after the word
-abbrev pub epoch_of : ℕ → List TokenKind → Read WatchTree
+abbrev pub epoch_of : Reader WatchTree
 epoch_of at ts = symbol_of OpenParen at ts >> λ at ts. name_and Comma at ts >>= λ e at ts.
     name_and CloseParen at ts >>= λ l at ts. symbol_of Semicolon at ts >> λ at ts. Ok (UseEpoch e l, at, ts)
 
@@ -351,7 +358,7 @@ scheme_next (Word Hazard) = Some (λ at ts. hazard_of at ts)
 scheme_next (Word Epoch) = Some (λ at ts. epoch_of at ts)
 scheme_next _ = None
 
-abbrev pub scheme_of : ℕ → List TokenKind → Read WatchTree
+abbrev pub scheme_of : Reader WatchTree
 scheme_of at ts = led scheme_next (Err at) at ts
 
 abbrev pub watch_next : Next (Option WatchTree)
@@ -359,7 +366,7 @@ watch_next (Word Use) = Some (λ at ts. scheme_of at ts >>= λ w at ts. Ok (Some
 watch_next _ = None
 
 -- what the reclaimer watches, which may be left out
-abbrev pub watch_of : ℕ → List TokenKind → Read (Option WatchTree)
+abbrev pub watch_of : Reader (Option WatchTree)
 watch_of at ts = led watch_next (Ok (None, at, ts)) at ts
 
 -- ---- clauses of an outline
@@ -372,7 +379,7 @@ term_next (Word NoneWord) = alone NoneTerm
 term_next (Name n) = Some (λ at ts. place_of_name n at ts >>= λ p at ts. Ok (PlaceTerm p, at, ts))
 term_next _ = None
 
-abbrev pub term_of : ℕ → List TokenKind → Read TermTree
+abbrev pub term_of : Reader TermTree
 term_of at ts = led term_next (Err at) at ts
 
 abbrev pub equality_next : Next Bool
@@ -380,16 +387,16 @@ equality_next (Symbol Equal) = alone true
 equality_next (Symbol Unequal) = alone false
 equality_next _ = None
 
-abbrev pub equality_of : ℕ → List TokenKind → Read Bool
+abbrev pub equality_of : Reader Bool
 equality_of at ts = led equality_next (Err at) at ts
 
 -- "retired" of a name, from after its word
-abbrev pub retired_of : ℕ → List TokenKind → Read FlagTree
+abbrev pub retired_of : Reader FlagTree
 retired_of at ts = symbol_of OpenParen at ts >> λ at ts.
     name_and CloseParen at ts >>= λ n at ts. Ok (RetiredFlag n, at, ts)
 
 -- "marked" of a place, from after its word
-abbrev pub marked_of : ℕ → List TokenKind → Read FlagTree
+abbrev pub marked_of : Reader FlagTree
 marked_of at ts = symbol_of OpenParen at ts >> λ at ts. place_of at ts >>= λ p at ts.
     symbol_of CloseParen at ts >> λ at ts. Ok (MarkedFlag p, at, ts)
 
@@ -398,10 +405,10 @@ flag_next (Word Retired) = Some (λ at ts. retired_of at ts)
 flag_next (Word Marked) = Some (λ at ts. marked_of at ts)
 flag_next _ = None
 
-abbrev pub flag_of : ℕ → List TokenKind → Read FlagTree
+abbrev pub flag_of : Reader FlagTree
 flag_of at ts = led flag_next (Err at) at ts
 
-abbrev pub equation_of : ℕ → List TokenKind → Read LiteralTree
+abbrev pub equation_of : Reader LiteralTree
 equation_of at ts = term_of at ts >>= λ a at ts. equality_of at ts >>= λ e at ts.
     term_of at ts >>= λ b at ts. Ok (EqualityLiteral a e b, at, ts)
 
@@ -411,10 +418,10 @@ literal_next (Word Retired) = Some (λ at ts. retired_of at ts >>= λ f at ts. O
 literal_next (Word Marked) = Some (λ at ts. marked_of at ts >>= λ f at ts. Ok (FlagLiteral f, at, ts))
 literal_next _ = None
 
-abbrev pub literal_of : ℕ → List TokenKind → Read LiteralTree
+abbrev pub literal_of : Reader LiteralTree
 literal_of at ts = led literal_next (equation_of at ts) at ts
 
-abbrev pub or_literal_of : ℕ → List TokenKind → Read LiteralTree
+abbrev pub or_literal_of : Reader LiteralTree
 or_literal_of at ts = word_of Or at ts >> λ at ts. literal_of at ts
 
 abbrev pub second_next : Next (Option Text)
@@ -422,11 +429,11 @@ second_next (Symbol Comma) = Some (λ at ts. name_of at ts >>= λ n at ts. Ok (S
 second_next _ = None
 
 -- a second quantified name, which may be left out
-abbrev pub second_of : ℕ → List TokenKind → Read (Option Text)
+abbrev pub second_of : Reader (Option Text)
 second_of at ts = led second_next (Ok (None, at, ts)) at ts
 
 -- one or two quantified names, from after "all"
-abbrev pub all_of : ℕ → List TokenKind → Read BoundTree
+abbrev pub all_of : Reader BoundTree
 all_of at ts = name_of at ts >>= λ n at ts. second_of at ts >>= λ k at ts.
     symbol_of Colon at ts >> λ at ts. Ok (AllOf n k, at, ts)
 
@@ -434,7 +441,7 @@ abbrev pub bound_next : Next BoundTree
 bound_next (Word All) = Some (λ at ts. all_of at ts)
 bound_next _ = None
 
-abbrev pub bound_of : ℕ → List TokenKind → Read BoundTree
+abbrev pub bound_of : Reader BoundTree
 bound_of at ts = led bound_next (Ok (NoBound, at, ts)) at ts
 
 -- ---- the depth of an outline
@@ -445,5 +452,5 @@ depth_next (Word Depth) = Some (λ at ts. number_of at ts >>= λ d at ts.
 depth_next _ = None
 
 -- the depth, which may be left out
-abbrev pub depth_of : ℕ → List TokenKind → Read (Option ℕ)
+abbrev pub depth_of : Reader (Option ℕ)
 depth_of at ts = led depth_next (Ok (None, at, ts)) at ts

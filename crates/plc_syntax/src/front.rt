@@ -1,6 +1,6 @@
-// Single tokens at the front, a name after its comma, and how a form is put around what is read. Each reader
-// takes what it names, or answers the place of the token that stands there in its stead; `word_if_at` takes its
-// word if it stands there, and says so.
+// Single tokens at the front, a name after its comma or before its symbol, and how a form is put around what is
+// read. Each reader takes what it names, or answers the place of the token that stands there in its stead;
+// `word_if_at` takes its word if it stands there, and says so.
 ghost use Rattle.std.specs.Prelude.{◌≡◌, ◌+◌, ◌∷◌, [], MatchOption, IfSome};
 ghost use Rattle.plc_syntax.specs.Syntax.{kinds};
 ghost use Rattle.plc_syntax.specs.Views.{text_of};

@@ -10,7 +10,7 @@ ghost use Rattle.plc_syntax.specs.Answers.{Gives};
 
 use crate::condition::test_at;
 use crate::form::{Argument, Atom, GhostSet, GhostValue, Place, Primitive, Refresh, Set, Value};
-use crate::front::{Read, first, name_and_at, name_at, stuck, symbol_at};
+use crate::front::{Read, first, name_and_at, name_at, stuck};
 use crate::rest::Rest;
 use crate::within;
 use plc_lex::{Keyword, Symbol, TokenKind};

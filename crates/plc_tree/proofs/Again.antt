@@ -6,7 +6,7 @@ use Rattle.plc_lex.specs.declared.token.Keyword.TheVariants as words
 use Rattle.plc_lex.specs.declared.token.Symbol.TheVariants.{OpenBrace, CloseBrace, CloseParen, Semicolon, Colon}
 use Rattle.plc_syntax.specs.Trees as trees
 use Rattle.plc_syntax.specs.Trees.{Text, each_then, maybe_then}
-use Rattle.plc_syntax.proofs.Combinators.{Tokens, Reader}
+use Rattle.plc_syntax.proofs.Combinators.{Tokens, Fuelled}
 use Rattle.plc_syntax.specs.Forms.{first_is, comma_name_of, primitive_line_of, initial_of, field_of, shared_of}
 use Rattle.plc_syntax.specs.Forms.{function_of, watch_next, or_literal_of, depth_next}
 use Rattle.plc_syntax.proofs.Again.{Gets, done, then, one_more, gets_by, where_true, where_false, Leaves, left_out}
@@ -84,7 +84,7 @@ call_gets k (trees.NameArgument x) (Some d) at r = done
 call_gets k (trees.ActiveArgument x) None at r = done
 call_gets k (trees.ActiveArgument x) (Some d) at r = done
 
-abbrev statement_of : Reader trees.StatementTree
+abbrev statement_of : Fuelled trees.StatementTree
 statement_of m at ts = forms.statement_of (forms.block_of m) (forms.ors_of m) m at ts
 
 primitive_statement_gets : (p : trees.PrimitiveTree) (at : ℕ) (r : Tokens)

@@ -13,7 +13,7 @@ use Rattle.plc_syntax.specs.declared.fault.Fault.TheVariants as faults
 use Rattle.plc_syntax.specs.Answers.{FailsAs}
 use Rattle.plc_syntax.specs.Forms.{Read}
 use Rattle.plc_syntax.proofs.Again.{Gets}
-use Rattle.plc_syntax.proofs.Combinators.{Tokens, Spells, Reader, same, SameHead, Whole, Stuck, Is, Law}
+use Rattle.plc_syntax.proofs.Combinators.{Tokens, Spells, Fuelled, same, SameHead, Whole, Stuck, Is, Law}
 use Rattle.plc_tree.specs.Answers.{StopsThere}
 use Rattle.plc_tree.specs.Forms.{file_of}
 use Rattle.plc_tree.proofs.Again.{file_gets}
@@ -50,7 +50,7 @@ pub not_none : {X : Type 0} (x y : X) (p q : ℕ) (t : TokenKind) (us : Tokens)
     → let left : Read X = Ok (x, p, t ∷ us) in let right : Read X = Ok (y, q, []) in left ≡ right → ⊥
 not_none x y p q t us e = subst (λ o. LeavesAny o) e tt
 
-module _ {X : Type 0} (s : Spells X) (f : Reader X) (law : (n : ℕ) → Law n s same f)
+module _ {X : Type 0} (s : Spells X) (f : Fuelled X) (law : (n : ℕ) → Law n s same f)
     (again : (x : X) → Gets (λ m. f m 0 (s x [])) x []) where
   -- what is spelled by a tree is read as it, whatever the fuel is more
   pub no_other : (n : ℕ) (x : X) (ts : Tokens) (answer : Read X) → s x [] ≡ ts

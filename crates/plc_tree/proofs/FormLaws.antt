@@ -6,14 +6,14 @@ use Rattle.plc_lex.specs.declared.token.TokenKind.TheVariants.{Word, Name, Symbo
 use Rattle.plc_lex.specs.declared.token.Keyword.TheVariants.{Struct, Ghost, Thread, Init, Op, Atomic, If, Else, Loop}
 use Rattle.plc_lex.specs.declared.token.Keyword.TheVariants.{Break, Return, Choose, Or, Label, Null, Outline, Inv, Over}
 use Rattle.plc_lex.specs.declared.token.Keyword.TheVariants.{At}
-use Rattle.plc_lex.specs.declared.token.Symbol.{Symbol as Punctuation}
 use Rattle.plc_lex.specs.declared.token.Symbol.TheVariants.{Equal, OpenBrace, CloseBrace, OpenParen, CloseParen}
 use Rattle.plc_lex.specs.declared.token.Symbol.TheVariants.{Semicolon, Colon}
 use Rattle.plc_syntax.specs.Trees as trees
 use Rattle.plc_syntax.specs.Trees.{Text, each_then, maybe_then}
-use Rattle.plc_syntax.proofs.Combinators.{Tokens, Spells, Reader, same, Law, Early, Choice, takes, leaves, last, fault}
+use Rattle.plc_syntax.proofs.Combinators.{Tokens, Spells, Fuelled, same, Law, Early, Choice, takes, leaves, last, fault}
 use Rattle.plc_syntax.proofs.Combinators.{early_fault, led_law, early_led, then_form, then_whole, within, any_fuel}
-use Rattle.plc_syntax.proofs.Combinators.{then_symbol, then_word, a_name, a_name_fits, name_law, name_and_law, listed, list_law}
+use Rattle.plc_syntax.proofs.Combinators.{then_symbol, then_word, ended_by_law, a_name, a_name_fits, name_law}
+use Rattle.plc_syntax.proofs.Combinators.{name_and_law, listed, list_law}
 use Rattle.plc_syntax.specs.Forms.{first_is}
 use Rattle.plc_syntax.proofs.FormLaws.{condition_law, named_tail_law, primitive_line_law, initial_law, argument_law}
 use Rattle.plc_syntax.proofs.FormLaws.{during_law, comma_name_law, field_law, shared_law, function_law, watch_law}
@@ -22,16 +22,11 @@ use Rattle.plc_tree.specs.Forms as forms
 
 -- ---- a form between symbols
 
-braced_law : {X : Type 0} {n : ℕ} {s : Spells X} {f : Reader X} → Law n s same (λ m at ts. f m at ts)
+braced_law : {X : Type 0} {n : ℕ} {s : Spells X} {f : Fuelled X} → Law n s same (λ m at ts. f m at ts)
     → Law n (λ x q. Symbol OpenBrace ∷ s x q) same (λ m at ts. forms.braced_of (f m) at ts)
 braced_law law = then_symbol OpenBrace (within (λ q. Symbol OpenBrace ∷ q) law)
 
-ended_by_law : {X : Type 0} {n : ℕ} {s : Spells X} {f : Reader X} (k : Punctuation)
-    → Law n s same (λ m at ts. f m at ts)
-    → Law n (λ x q. s x (Symbol k ∷ q)) same (λ m at ts. forms.ended_by k (f m) at ts)
-ended_by_law k law = then_form law (λ x. then_symbol k (last (λ q. refl)))
-
-closed_law : {X : Type 0} {n : ℕ} {s : Spells X} {f : Reader X} → Law n s same (λ m at ts. f m at ts)
+closed_law : {X : Type 0} {n : ℕ} {s : Spells X} {f : Fuelled X} → Law n s same (λ m at ts. f m at ts)
     → Law n (λ x q. s x (Symbol CloseBrace ∷ q)) same (λ m at ts. forms.closed_of (f m) at ts)
 closed_law law = ended_by_law CloseBrace law
 

@@ -12,13 +12,13 @@ use Rattle.plc_syntax.specs.Syntax.{AreWhole, Begin, StopAt, IsFile, FaultAt}
 use Rattle.plc_syntax.specs.Trees.{FileTree, OutlineTree, file_then, file_tokens, outline_then}
 use Rattle.plc_syntax.specs.Forms.{Read}
 use Rattle.plc_syntax.proofs.Again.{Gets}
-use Rattle.plc_syntax.proofs.Combinators.{Tokens, Spells, Reader, same, SameHead, Whole, Stuck, Is, Law}
+use Rattle.plc_syntax.proofs.Combinators.{Tokens, Spells, Fuelled, same, SameHead, Whole, Stuck, Is, Law}
 use Rattle.plc_tree.specs.Forms.{file_of, outline_of}
 use Rattle.plc_tree.proofs.Again.{file_gets, outline_gets}
 use Rattle.plc_tree.proofs.Exact.{fuel, no_other, not_none}
 use Rattle.plc_tree.proofs.FormLaws.{file_law, outline_law}
 
-module _ {X : Type 0} (s : Spells X) (f : Reader X) (law : (n : ℕ) → Law n s same f)
+module _ {X : Type 0} (s : Spells X) (f : Fuelled X) (law : (n : ℕ) → Law n s same f)
     (again : (x : X) → Gets (λ m. f m 0 (s x [])) x []) where
   -- no tree's tokens begin with these
   abbrev NoneBegins : Tokens → Type 0
@@ -101,7 +101,7 @@ read_or other (Ok r) = (r.0, r.2)
 read_or other (Err at) = other
 
 -- tokens begin with one tree at most: both trees are what is read
-one_front : {X : Type 0} (f : Reader X) (ts us : Tokens) (a b : X) (r q : Tokens) → ts ≡ us
+one_front : {X : Type 0} (f : Fuelled X) (ts us : Tokens) (a b : X) (r q : Tokens) → ts ≡ us
     → Gets (λ m. f m 0 ts) a r → Gets (λ m. f m 0 us) b q → ◌≡◌ {A = X × Tokens} (a, r) (b, q)
 one_front f ts us a b r q e g h =
     let m = g.fuel + h.fuel in

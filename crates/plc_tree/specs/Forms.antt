@@ -8,7 +8,6 @@ use Rattle.plc_lex.specs.declared.token.Keyword.{Keyword}
 use Rattle.plc_lex.specs.declared.token.Keyword.TheVariants.{Struct, Ptr, Data, Shared, Call, Ghost, Thread, Init, Op}
 use Rattle.plc_lex.specs.declared.token.Keyword.TheVariants.{Atomic, If, Else, Loop, Break, Return, Skip, Choose, Or}
 use Rattle.plc_lex.specs.declared.token.Keyword.TheVariants.{Label, Active, Assume, Outline, Inv, Over, At}
-use Rattle.plc_lex.specs.declared.token.Symbol.{Symbol as Punctuation}
 use Rattle.plc_lex.specs.declared.token.Symbol.TheVariants.{OpenBrace, CloseBrace, OpenParen, CloseParen, Semicolon}
 use Rattle.plc_lex.specs.declared.token.Symbol.TheVariants.{Comma, Colon}
 use Rattle.plc_syntax.specs.Trees.{Text, FieldTree, FunctionTree, GhostKindTree, OneOf, OfThreads, GhostTree, Auxiliary}
@@ -18,20 +17,13 @@ use Rattle.plc_syntax.specs.Trees.{ReturnStatement, LabelStatement, BlockTree, N
 use Rattle.plc_syntax.specs.Trees.{ElseBlock, OrTree, NoOr, OrBlock, OpTree, Operates, LiteralTree, ClauseTree, Claims}
 use Rattle.plc_syntax.specs.Trees.{ItemTree, InvariantItem, OverItem, AtItem, OutlineTree, Outlined, FileTree}
 use Rattle.plc_syntax.specs.Trees.{ConditionTree}
-use Rattle.plc_syntax.specs.Forms.{Read, ◌>>=◌, ◌>>◌, Next, led, alone, first_is, list_of, word_of, symbol_of, name_of}
-use Rattle.plc_syntax.specs.Forms.{name_and}
+use Rattle.plc_syntax.specs.Forms.{Reader, ◌>>=◌, ◌>>◌, Next, led, alone, first_is, list_of, word_of, symbol_of}
+use Rattle.plc_syntax.specs.Forms.{ended_by, name_of, name_and}
 use Rattle.plc_syntax.specs.Forms.{comma_name_of, condition_of, named_tail_of, primitive_line_of, initial_of}
 use Rattle.plc_syntax.specs.Forms.{argument_of, during_of, field_of, shared_of, function_of, watch_of, literal_of}
 use Rattle.plc_syntax.specs.Forms.{or_literal_of, bound_of, depth_of}
 
 -- ---- a form between symbols
-
-abbrev pub Reader : Type 0 → Type 0
-Reader A = ℕ → List TokenKind → Read A
-
--- a form and the symbol that ends it
-abbrev pub ended_by : {A : Type 0} → Punctuation → Reader A → Reader A
-ended_by end form at ts = form at ts >>= λ x at ts. symbol_of end at ts >> λ at ts. Ok (x, at, ts)
 
 -- a form and the closing brace
 abbrev pub closed_of : {A : Type 0} → Reader A → Reader A
@@ -47,7 +39,7 @@ abbrev pub begins_comma_name : TokenKind → Bool
 begins_comma_name (Symbol Comma) = true
 begins_comma_name _ = false
 
-abbrev pub comma_names_of : ℕ → ℕ → List TokenKind → Read (List Text)
+abbrev pub comma_names_of : ℕ → Reader (List Text)
 comma_names_of m at ts = list_of begins_comma_name (λ m at ts. comma_name_of at ts) m at ts
 
 -- ---- primitives
@@ -60,7 +52,7 @@ begins_primitive (Word Assume) = true
 begins_primitive (Word Skip) = true
 begins_primitive _ = false
 
-abbrev pub primitives_of : ℕ → ℕ → List TokenKind → Read (List PrimitiveTree)
+abbrev pub primitives_of : ℕ → Reader (List PrimitiveTree)
 primitives_of m at ts = list_of begins_primitive (λ m at ts. primitive_line_of at ts) m at ts
 
 -- ---- the assignments of `init`
@@ -70,13 +62,13 @@ begins_initial (Name n) = true
 begins_initial (Word Ghost) = true
 begins_initial _ = false
 
-abbrev pub initials_of : ℕ → ℕ → List TokenKind → Read (List InitialTree)
+abbrev pub initials_of : ℕ → Reader (List InitialTree)
 initials_of m at ts = list_of begins_initial (λ m at ts. initial_of at ts) m at ts
 
 -- ---- statements without blocks of statements
 
 -- a call, from after its opening parenthesis
-abbrev pub call_of : Text → ℕ → List TokenKind → Read StatementTree
+abbrev pub call_of : Text → Reader StatementTree
 call_of f at ts = argument_of at ts >>= λ a at ts.
     symbol_of CloseParen at ts >> λ at ts. during_of at ts >>= λ d at ts.
     symbol_of Semicolon at ts >> λ at ts. Ok (CallStatement f a d, at, ts)
@@ -86,23 +78,23 @@ named_statement_next n (Symbol OpenParen) = Some (λ at ts. call_of n at ts)
 named_statement_next n _ = None
 
 -- a call or a primitive, from after the name with which it begins
-abbrev pub named_statement_of : Text → ℕ → List TokenKind → Read StatementTree
+abbrev pub named_statement_of : Text → Reader StatementTree
 named_statement_of n at ts = led (named_statement_next n) (named_tail_of n at ts >>= λ p at ts.
     symbol_of Semicolon at ts >> λ at ts. Ok (PrimitiveStatement p, at, ts)) at ts
 
 -- an atomic block, from after its word; at most so many primitives
-abbrev pub atomic_of : ℕ → ℕ → List TokenKind → Read StatementTree
+abbrev pub atomic_of : ℕ → Reader StatementTree
 atomic_of m at ts = braced_of (closed_of (primitives_of m)) at ts >>= λ ps at ts. Ok (AtomicStatement ps, at, ts)
 
 -- a statement and its semicolon, from after its word
-abbrev pub ended_of : StatementTree → ℕ → List TokenKind → Read StatementTree
+abbrev pub ended_of : StatementTree → Reader StatementTree
 ended_of s at ts = symbol_of Semicolon at ts >> λ at ts. Ok (s, at, ts)
 
-abbrev pub label_of : ℕ → List TokenKind → Read StatementTree
+abbrev pub label_of : Reader StatementTree
 label_of at ts = name_and Semicolon at ts >>= λ n at ts. Ok (LabelStatement n, at, ts)
 
 -- a primitive as a statement
-abbrev pub step_of : ℕ → List TokenKind → Read StatementTree
+abbrev pub step_of : Reader StatementTree
 step_of at ts = primitive_line_of at ts >>= λ p at ts. Ok (PrimitiveStatement p, at, ts)
 
 -- ---- blocks; `block` reads what stands after an opening brace, `ors` the blocks of a choice after its second
@@ -114,7 +106,7 @@ abbrev pub OrsReader : Type 0
 OrsReader = Reader OrTree
 
 -- a loop, from after its word
-unfoldable pub loop_of : BlockReader → ℕ → List TokenKind → Read StatementTree
+unfoldable pub loop_of : BlockReader → Reader StatementTree
 loop_of block at ts = braced_of block at ts >>= λ b at ts. Ok (LoopStatement b, at, ts)
 
 abbrev pub else_next : BlockReader → Next ElseTree
@@ -122,20 +114,20 @@ else_next block (Word Else) = Some (λ at ts. braced_of block at ts >>= λ b at 
 else_next block _ = None
 
 -- an `else` and its block, which may be left out
-unfoldable pub else_of : BlockReader → ℕ → List TokenKind → Read ElseTree
+unfoldable pub else_of : BlockReader → Reader ElseTree
 else_of block at ts = led (else_next block) (Ok (NoElse, at, ts)) at ts
 
 -- the condition of an `if` and its parentheses
-abbrev pub guard_of : ℕ → List TokenKind → Read ConditionTree
+abbrev pub guard_of : Reader ConditionTree
 guard_of at ts = symbol_of OpenParen at ts >> λ at ts. ended_by CloseParen condition_of at ts
 
 -- an `if`, from after its word
-unfoldable pub if_of : BlockReader → ℕ → List TokenKind → Read StatementTree
+unfoldable pub if_of : BlockReader → Reader StatementTree
 if_of block at ts = guard_of at ts >>= λ c at ts. braced_of block at ts >>= λ b at ts.
     else_of block at ts >>= λ e at ts. Ok (IfStatement c b e, at, ts)
 
 -- a choice, from after its word
-unfoldable pub choose_of : BlockReader → OrsReader → ℕ → List TokenKind → Read StatementTree
+unfoldable pub choose_of : BlockReader → OrsReader → Reader StatementTree
 choose_of block ors at ts = braced_of block at ts >>= λ a at ts. word_of Or at ts >> λ at ts.
     braced_of block at ts >>= λ b at ts. ors at ts >>= λ os at ts. Ok (ChooseStatement a b os, at, ts)
 
@@ -150,7 +142,7 @@ statement_next block ors m (Word Return) = Some (λ at ts. ended_of ReturnStatem
 statement_next block ors m (Word Label) = Some (λ at ts. label_of at ts)
 statement_next block ors m _ = None
 
-unfoldable pub statement_of : BlockReader → OrsReader → ℕ → ℕ → List TokenKind → Read StatementTree
+unfoldable pub statement_of : BlockReader → OrsReader → ℕ → Reader StatementTree
 statement_of block ors m at ts = led (statement_next block ors m) (step_of at ts) at ts
 
 -- the words with which a statement begins
@@ -207,25 +199,25 @@ begins_field (Word Ptr) = true
 begins_field (Word Data) = true
 begins_field _ = false
 
-abbrev pub fields_of : ℕ → ℕ → List TokenKind → Read (List FieldTree)
+abbrev pub fields_of : ℕ → Reader (List FieldTree)
 fields_of m at ts = list_of begins_field (λ m at ts. field_of at ts) m at ts
 
 abbrev pub begins_shared : TokenKind → Bool
 begins_shared (Word Shared) = true
 begins_shared _ = false
 
-abbrev pub pointers_of : ℕ → ℕ → List TokenKind → Read (List Text)
+abbrev pub pointers_of : ℕ → Reader (List Text)
 pointers_of m at ts = list_of begins_shared (λ m at ts. shared_of at ts) m at ts
 
 abbrev pub begins_function : TokenKind → Bool
 begins_function (Word Call) = true
 begins_function _ = false
 
-abbrev pub functions_of : ℕ → ℕ → List TokenKind → Read (List FunctionTree)
+abbrev pub functions_of : ℕ → Reader (List FunctionTree)
 functions_of m at ts = list_of begins_function (λ m at ts. function_of at ts) m at ts
 
 -- the values of an auxiliary field, from after the opening brace
-abbrev pub values_of : ℕ → ℕ → List TokenKind → Read GhostKindTree
+abbrev pub values_of : ℕ → Reader GhostKindTree
 values_of m at ts = name_of at ts >>= λ v at ts. closed_of (comma_names_of m) at ts >>= λ vs at ts.
     Ok (OneOf v vs, at, ts)
 
@@ -234,11 +226,11 @@ ghost_kind_next m (Symbol OpenBrace) = Some (λ at ts. values_of m at ts)
 ghost_kind_next m (Word Thread) = alone OfThreads
 ghost_kind_next m _ = None
 
-abbrev pub ghost_kind_of : ℕ → ℕ → List TokenKind → Read GhostKindTree
+abbrev pub ghost_kind_of : ℕ → Reader GhostKindTree
 ghost_kind_of m at ts = led (ghost_kind_next m) (Err at) at ts
 
 -- an auxiliary field, from after its word
-abbrev pub ghost_tail_of : ℕ → ℕ → List TokenKind → Read GhostTree
+abbrev pub ghost_tail_of : ℕ → Reader GhostTree
 ghost_tail_of m at ts = name_of at ts >>= λ n at ts. ghost_kind_of m at ts >>= λ k at ts.
     symbol_of Semicolon at ts >> λ at ts. Ok (Auxiliary n k, at, ts)
 
@@ -250,10 +242,10 @@ abbrev pub begins_ghost : TokenKind → Bool
 begins_ghost (Word Ghost) = true
 begins_ghost _ = false
 
-abbrev pub ghost_of : ℕ → ℕ → List TokenKind → Read GhostTree
+abbrev pub ghost_of : ℕ → Reader GhostTree
 ghost_of m at ts = led (ghost_next m) (Err at) at ts
 
-abbrev pub ghosts_of : ℕ → ℕ → List TokenKind → Read (List GhostTree)
+abbrev pub ghosts_of : ℕ → Reader (List GhostTree)
 ghosts_of m at ts = list_of begins_ghost (λ m at ts. ghost_of m at ts) m at ts
 
 abbrev pub init_next : ℕ → Next (Option (List InitialTree))
@@ -262,7 +254,7 @@ init_next m (Word Init) =
 init_next m _ = None
 
 -- the init block, which may be left out
-abbrev pub init_of : ℕ → ℕ → List TokenKind → Read (Option (List InitialTree))
+abbrev pub init_of : ℕ → Reader (Option (List InitialTree))
 init_of m at ts = led (init_next m) (Ok (None, at, ts)) at ts
 
 -- ---- operations
@@ -274,11 +266,11 @@ parameters_next m (Symbol CloseParen) = alone []
 parameters_next m _ = None
 
 -- parameters, of which there may be none, and the closing parenthesis
-abbrev pub parameters_of : ℕ → ℕ → List TokenKind → Read (List Text)
+abbrev pub parameters_of : ℕ → Reader (List Text)
 parameters_of m at ts = led (parameters_next m) (Err at) at ts
 
 -- an operation, from after its word
-abbrev pub op_tail_of : ℕ → ℕ → List TokenKind → Read OpTree
+abbrev pub op_tail_of : ℕ → Reader OpTree
 op_tail_of m at ts = name_and OpenParen at ts >>= λ n at ts. parameters_of m at ts >>= λ ps at ts.
     symbol_of OpenBrace at ts >> λ at ts. fields_of m at ts >>= λ ls at ts.
     block_of m at ts >>= λ b at ts. Ok (Operates n ps ls b, at, ts)
@@ -291,31 +283,31 @@ abbrev pub begins_op : TokenKind → Bool
 begins_op (Word Op) = true
 begins_op _ = false
 
-abbrev pub op_of : ℕ → ℕ → List TokenKind → Read OpTree
+abbrev pub op_of : ℕ → Reader OpTree
 op_of m at ts = led (op_next m) (Err at) at ts
 
-abbrev pub ops_of : ℕ → ℕ → List TokenKind → Read (List OpTree)
+abbrev pub ops_of : ℕ → Reader (List OpTree)
 ops_of m at ts = list_of begins_op (λ m at ts. op_of m at ts) m at ts
 
 -- ---- clauses of an outline
 
-abbrev pub or_literals_of : ℕ → ℕ → List TokenKind → Read (List LiteralTree)
+abbrev pub or_literals_of : ℕ → Reader (List LiteralTree)
 or_literals_of m at ts = list_of begins_or (λ m at ts. or_literal_of at ts) m at ts
 
 -- a clause and its semicolon
-abbrev pub clause_of : ℕ → ℕ → List TokenKind → Read ClauseTree
+abbrev pub clause_of : ℕ → Reader ClauseTree
 clause_of m at ts = bound_of at ts >>= λ b at ts. literal_of at ts >>= λ l at ts.
     ended_by Semicolon (or_literals_of m) at ts >>= λ ls at ts. Ok (Claims b l ls, at, ts)
 
 -- ---- items, and the outline
 
 -- an item over an operation, from after its word
-abbrev pub over_of : ℕ → ℕ → List TokenKind → Read ItemTree
+abbrev pub over_of : ℕ → Reader ItemTree
 over_of m at ts = name_and Colon at ts >>= λ n at ts.
     clause_of m at ts >>= λ c at ts. Ok (OverItem n c, at, ts)
 
 -- an item at labels, from after its word
-abbrev pub at_of : ℕ → ℕ → List TokenKind → Read ItemTree
+abbrev pub at_of : ℕ → Reader ItemTree
 at_of m at ts = name_of at ts >>= λ n at ts. ended_by Colon (comma_names_of m) at ts >>= λ ns at ts.
     clause_of m at ts >>= λ c at ts. Ok (AtItem n ns c, at, ts)
 
@@ -331,18 +323,18 @@ begins_item (Word Over) = true
 begins_item (Word At) = true
 begins_item _ = false
 
-abbrev pub item_of : ℕ → ℕ → List TokenKind → Read ItemTree
+abbrev pub item_of : ℕ → Reader ItemTree
 item_of m at ts = led (item_next m) (Err at) at ts
 
-abbrev pub items_of : ℕ → ℕ → List TokenKind → Read (List ItemTree)
+abbrev pub items_of : ℕ → Reader (List ItemTree)
 items_of m at ts = list_of begins_item (λ m at ts. item_of m at ts) m at ts
 
 -- an outline, from after its word
-abbrev pub outline_tail_of : ℕ → ℕ → List TokenKind → Read OutlineTree
+abbrev pub outline_tail_of : ℕ → Reader OutlineTree
 outline_tail_of m at ts = symbol_of OpenBrace at ts >> λ at ts. depth_of at ts >>= λ d at ts.
     closed_of (items_of m) at ts >>= λ is at ts. Ok (Outlined d is, at, ts)
 
-abbrev pub outline_of : ℕ → ℕ → List TokenKind → Read OutlineTree
+abbrev pub outline_of : ℕ → Reader OutlineTree
 outline_of m at ts = word_of Outline at ts >> λ at ts. outline_tail_of m at ts
 
 abbrev pub outlined_next : ℕ → Next (Option OutlineTree)
@@ -350,18 +342,18 @@ outlined_next m (Word Outline) = Some (λ at ts. outline_tail_of m at ts >>= λ 
 outlined_next m _ = None
 
 -- an outline, which may be left out
-abbrev pub outlined_of : ℕ → ℕ → List TokenKind → Read (Option OutlineTree)
+abbrev pub outlined_of : ℕ → Reader (Option OutlineTree)
 outlined_of m at ts = led (outlined_next m) (Ok (None, at, ts)) at ts
 
 -- ---- the file
 
 -- "struct", the struct's name and its fields
-abbrev pub struct_of : ℕ → ℕ → List TokenKind → Read (Text × List FieldTree)
+abbrev pub struct_of : ℕ → Reader (Text × List FieldTree)
 struct_of m at ts = word_of Struct at ts >> λ at ts. name_of at ts >>= λ n at ts.
     braced_of (closed_of (fields_of m)) at ts >>= λ fs at ts. Ok ((n, fs), at, ts)
 
 -- what stands before the operations, with none and no outline
-abbrev pub heading_of : ℕ → ℕ → List TokenKind → Read FileTree
+abbrev pub heading_of : ℕ → Reader FileTree
 heading_of m at ts = struct_of m at ts >>= λ s at ts. pointers_of m at ts >>= λ ps at ts.
     functions_of m at ts >>= λ fs at ts. watch_of at ts >>= λ w at ts.
     ghosts_of m at ts >>= λ gs at ts. init_of m at ts >>= λ i at ts. Ok (
@@ -381,6 +373,6 @@ heading_of m at ts = struct_of m at ts >>= λ s at ts. pointers_of m at ts >>= �
     )
 
 -- a file
-abbrev pub file_of : ℕ → ℕ → List TokenKind → Read FileTree
+abbrev pub file_of : ℕ → Reader FileTree
 file_of m at ts = heading_of m at ts >>= λ h at ts. ops_of m at ts >>= λ os at ts.
     outlined_of m at ts >>= λ o at ts. Ok (record h { ops = os; outlined = o }, at, ts)

@@ -1,11 +1,11 @@
 // Lists of any length: items stand one after another while a token stands there with which one begins.
-// One loop reads them all. Each item takes a token, so there are no more of them than tokens: `most` is
-// above that number, and ends the loop.
+// One loop reads them all, with the symbol that ends them and between braces too. Each item takes a token, so there
+// are no more of them than tokens: `most` is above that number, and ends the loop.
 ghost use Rattle.std.specs.Prelude.{◌≡◌, map};
 ghost use Rattle.plc_syntax.specs.Syntax.{kinds};
-ghost use Rattle.plc_syntax.specs.Forms.{first_is, list_of};
+ghost use Rattle.plc_syntax.specs.Forms.{first_is, list_of, ended_by};
 ghost use Rattle.plc_syntax.specs.Answers.{Gives};
-ghost use Rattle.plc_tree.specs.Forms.{ended_by, closed_of, braced_of};
+ghost use Rattle.plc_tree.specs.Forms.{closed_of, braced_of};
 
 use plc_base::Items;
 use plc_lex::{Symbol, TokenKind};

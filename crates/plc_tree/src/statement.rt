@@ -1,4 +1,4 @@
-// Statements that hold no blocks of statements.
+// Statements that hold no blocks of statements, and the condition of an `if`.
 ghost use Rattle.plc_syntax.specs.Syntax.{kinds};
 ghost use Rattle.plc_syntax.specs.Views.{condition_tree};
 ghost use Rattle.plc_syntax.specs.Answers.{Gives};

@@ -3,7 +3,7 @@ use Rattle.std.proofs.lemmas.List.{append-nil}
 use Rattle.std.proofs.lemmas.Result.{err_from_is_err_and}
 use Rattle.plc_scope.specs.Scope.{◌>>=◌}
 use Rattle.plc_scope.proofs.Sequence.{bind_stops, fails_before}
-use Rattle.plc_scope.proofs.Turns.{ahead, makes, makes_none, made, size_turn, size_fits, size_end}
+use Rattle.plc_scope.proofs.Turns.{ahead, makes, makes_none, made, size_turn, size_end}
 use Rattle.plc_parse.specs.Meaning.{counted, count_of, allocates}
 use Rattle.plc_parse.proofs.Loops.{form_made, forms_made, forms_from, one_form, forms_go, one_form_more, one_form_long}
 use Rattle.plc_parse.proofs.Loops.{added}
