@@ -55,15 +55,10 @@ fn push_outline(alloc: Global, answer: &mut String, all: &[Token]) -> Result<(),
 }
 
 impl ForTokens for Alone {
-    fn push_for(
-        &self,
-        alloc: Global,
-        answer: &mut String,
-        all: &[Token],
-    ) -> Result<(), AllocError> {
+    fn push_for(&self, alloc: Global, text: &mut String, all: &[Token]) -> Result<(), AllocError> {
         match self {
-            Alone::File => write!(answer, "{:?}", file_fate(alloc, all)),
-            Alone::Outline => push_outline(alloc, answer, all),
+            Alone::File => write!(text, "{:?}", file_fate(alloc, all)),
+            Alone::Outline => push_outline(alloc, text, all),
         }
     }
 }

@@ -43,14 +43,14 @@ fn retired_in(literal: Literal) -> Option<bool> {
 }
 
 // Fails where a literal is another, or where it says otherwise.
-fn assert_says(rt: &impl Abort, have: Option<bool>, want: bool) {
-    assert_eq!(rt; have, Some(want));
+fn assert_says(rt: &impl Abort, name: &str, have: Option<bool>, want: bool) {
+    assert_eq!(rt; have, Some(want), "{name}");
 }
 
 #[test]
 fn literals_are_negated(rt: HostRuntime) {
     for yes in [true, false] {
-        assert_says(&rt, equation_in(negated(&equation(yes))), !yes);
-        assert_says(&rt, retired_in(negated(&retired(yes))), !yes);
+        assert_says(&rt, "equation", equation_in(negated(&equation(yes))), !yes);
+        assert_says(&rt, "retired", retired_in(negated(&retired(yes))), !yes);
     }
 }

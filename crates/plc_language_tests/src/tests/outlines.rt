@@ -319,13 +319,8 @@ fn came_at_front(alloc: Global, all: &[Token]) -> Result<String, ParseFault>
 struct OutlineAtFront;
 
 impl ForTokens for OutlineAtFront {
-    fn push_for(
-        &self,
-        alloc: Global,
-        answer: &mut String,
-        all: &[Token],
-    ) -> Result<(), AllocError> {
-        push_came(answer, came_at_front(alloc, all), 0)
+    fn push_for(&self, alloc: Global, text: &mut String, all: &[Token]) -> Result<(), AllocError> {
+        push_came(text, came_at_front(alloc, all), 0)
     }
 }
 

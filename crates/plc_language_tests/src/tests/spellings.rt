@@ -32,8 +32,8 @@ fn push_tokens(text: &mut String, tokens: &[Token]) -> Result<(), AllocError> {
 struct TokensOf;
 
 impl ForTokens for TokensOf {
-    fn push_for(&self, _: Global, answer: &mut String, all: &[Token]) -> Result<(), AllocError> {
-        push_tokens(answer, all)
+    fn push_for(&self, _: Global, text: &mut String, all: &[Token]) -> Result<(), AllocError> {
+        push_tokens(text, all)
     }
 }
 
@@ -98,8 +98,8 @@ fn push_keywords(text: &mut String, tokens: &[Token]) -> Result<(), AllocError> 
 struct WordsOf;
 
 impl ForTokens for WordsOf {
-    fn push_for(&self, _: Global, answer: &mut String, all: &[Token]) -> Result<(), AllocError> {
-        push_keywords(answer, all)
+    fn push_for(&self, _: Global, text: &mut String, all: &[Token]) -> Result<(), AllocError> {
+        push_keywords(text, all)
     }
 }
 

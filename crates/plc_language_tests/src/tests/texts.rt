@@ -95,7 +95,7 @@ pub(crate) fn push_came(
 pub(crate) trait ForTokens {
     ghost use Rattle.std.specs.Prelude.{◌<◌, ◌^◌, length};
 
-    fn push_for(&self, alloc: Global, answer: &mut String, all: &[Token]) -> Result<(), AllocError>
+    fn push_for(&self, alloc: Global, text: &mut String, all: &[Token]) -> Result<(), AllocError>
         requires { length all.now < 2 ^ 32 };
 }
 

@@ -200,29 +200,36 @@ fn sets_are_those_of_the_format(rt: HostRuntime) -> Result<(), NoMemory> {
     Ok(())
 }
 
-// Whether the set of an obligation has this checksum.
-fn is_checksum(alloc: Global, parts: &[&str], i: u64, sum: u32) -> Result<bool, NoMemory> {
+// The checksum of the set of an obligation.
+fn checksum_of(alloc: Global, parts: &[&str], i: u64) -> Result<u32, NoMemory> {
     let text = answer(alloc, parts, i)?;
-    Ok(checksum(text.as_str()) == sum)
+    Ok(checksum(text.as_str()))
 }
 
 // Fails a test where the set of a row has another checksum.
 fn checksums_are(
     rt: &impl Abort,
     alloc: Global,
+    name: &str,
     parts: &[&str],
     rows: &[(u64, u32)],
 ) -> Result<(), NoMemory> {
     for row in rows {
         let (i, sum) = *row;
-        assert!(rt; is_checksum(alloc, parts, i, sum)?, "{i}");
+        assert_eq!(rt; checksum_of(alloc, parts, i)?, sum, "{name} {i}");
     }
     Ok(())
 }
 
 #[test]
 fn other_sets_have_their_checksums(rt: HostRuntime) -> Result<(), NoMemory> {
-    checksums_are(&rt, rt.alloc(), &HAZARDS, OF_HAZARDS)?;
-    checksums_are(&rt, rt.alloc(), &[DEEP], OF_DEEP)?;
-    checksums_are(&rt, rt.alloc(), &[DEEP_MARKED], OF_DEEP_MARKED)
+    checksums_are(&rt, rt.alloc(), "hazards", &HAZARDS, OF_HAZARDS)?;
+    checksums_are(&rt, rt.alloc(), "deep", &[DEEP], OF_DEEP)?;
+    checksums_are(
+        &rt,
+        rt.alloc(),
+        "deep marked",
+        &[DEEP_MARKED],
+        OF_DEEP_MARKED,
+    )
 }

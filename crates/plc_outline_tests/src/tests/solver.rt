@@ -150,40 +150,28 @@ fn verdict_over(alloc: Global, set: &GroundSet, nodes: &str) -> Result<Option<u6
     closes(alloc, set, &tree)
 }
 
-// Whether this is the verdict on a tree over five clauses, of which the fourth is empty.
-fn is_verdict(alloc: Global, nodes: &str, bad: Option<u64>) -> Result<bool, NoMemory> {
+// The verdict on a tree over five clauses, of which the fourth is empty.
+fn verdict_on(alloc: Global, nodes: &str) -> Result<Option<u64>, NoMemory> {
     let set = set(alloc, MIXED, "0=1; 2!=3; 4=5; -; 0=1 or 6=7")?;
-    let verdict = verdict_over(alloc, &set, nodes);
-    drop(set);
-    Ok(verdict? == bad)
+    verdict_over(alloc, &set, nodes)
 }
 
-// Trees with their first bad nodes.
-const TREES: &[(&str, Option<u64>)] = &[
-    ("S0 S1 2,3", None),
-    ("S1 S0 3,2", None),
-    ("S3", None),
-    ("S2 4,5", None),
-    ("S4 S1 2,3 6,7", None),
-    ("", Some(0)),
-    ("4,5", Some(0)),
-    ("S0 S5", Some(1)),
-    ("S0 2,11", Some(1)),
-    ("S0 2,3", Some(1)),
-    ("S1 2,3", Some(1)),
-    ("S4 6,7", Some(1)),
-    ("S3 S3", Some(1)),
-    ("S0 S1", Some(2)),
-    ("S4 S1 2,3", Some(3)),
-    ("S4 S1 2,3 2,3", Some(3)),
-    ("S0 S1 2,3 2,3", Some(3)),
+// First bad nodes, each with the trees that have it.
+const TREES: &[(Option<u64>, &str)] = &[
+    (None, "S0 S1 2,3; S1 S0 3,2; S3; S2 4,5; S4 S1 2,3 6,7"),
+    (Some(0), "; 4,5"),
+    (Some(1), "S0 S5; S0 2,11; S0 2,3; S1 2,3; S4 6,7; S3 S3"),
+    (Some(2), "S0 S1"),
+    (Some(3), "S4 S1 2,3; S4 S1 2,3 2,3; S0 S1 2,3 2,3"),
 ];
 
 #[test]
 fn trees_close_or_have_a_first_bad_node(rt: HostRuntime) -> Result<(), NoMemory> {
     for row in TREES {
-        let (nodes, bad) = *row;
-        assert!(rt; is_verdict(rt.alloc(), nodes, bad)?, "{nodes}");
+        let (bad, trees) = *row;
+        for nodes in trees.split("; ") {
+            assert_eq!(rt; verdict_on(rt.alloc(), nodes)?, bad, "{nodes}");
+        }
     }
     Ok(())
 }
@@ -205,20 +193,24 @@ fn are_a_model(alloc: Global, classes: &str) -> Result<bool, AllocError> {
 
 #[test]
 fn classes_are_a_model_or_not(rt: HostRuntime) -> Result<(), AllocError> {
+    // classes, and what is wrong with them where they are no model
     for row in &[
-        ("0 0 2 2 4 5 6 7 8 9 10", true, "two nodes"),
-        ("0 0 0 0 4 5 6 7 8 9 10", true, "one node"),
-        ("0 1 2 3 4 5 6 7 8 9 10", false, "a false clause"),
-        ("0 0 2 3 4 5 6 7 8 9 10", false, "no congruence"),
-        ("0 0 2 2 4 4 6 7 8 9 10", false, "none is me"),
-        ("0 0 2 2 4 5 6 6 8 9 10", false, "two numbers"),
-        ("0 0 2 2 4 5 6 7 8 8 10", false, "two values"),
-        ("0 0 2 2 4 5 6 7 8 9 9", false, "two sorts"),
-        ("1 1 2 2 4 5 6 7 8 9 10", false, "not the least"),
-        ("0 0 2 2 4 5 6 7 8 9", false, "a class is missing"),
+        ("0 0 2 2 4 5 6 7 8 9 10", ""),
+        ("0 0 0 0 4 5 6 7 8 9 10", ""),
+        ("0 1 2 3 4 5 6 7 8 9 10", "a false clause"),
+        ("0 0 2 3 4 5 6 7 8 9 10", "no congruence"),
+        ("0 0 2 2 4 4 6 7 8 9 10", "none is me"),
+        ("0 0 2 2 4 5 6 6 8 9 10", "two numbers"),
+        ("0 0 2 2 4 5 6 7 8 8 10", "two values"),
+        ("0 0 2 2 4 5 6 7 8 9 9", "two sorts"),
+        ("1 1 2 2 4 5 6 7 8 9 10", "not the least"),
+        ("0 0 2 2 4 5 6 7 8 9", "a class is missing"),
     ] {
-        let (classes, is, why) = *row;
-        assert!(rt; are_a_model(rt.alloc(), classes)? == is, "{why}");
+        let (classes, wrong) = *row;
+        assert!(rt;
+            are_a_model(rt.alloc(), classes)? == wrong.is_empty(),
+            "{classes}: {wrong}"
+        );
     }
     Ok(())
 }

@@ -311,8 +311,8 @@ const EFFECTS: &[(Prim, &str)] = &[
 fn effect_is(
     rt: &impl Abort,
     prim: &Prim,
-    have: Result<String, NoMemory>,
     want: &str,
+    have: Result<String, NoMemory>,
 ) -> Result<(), NoMemory> {
     let have = have?;
     assert_eq!(rt; have.as_str(), want, "{prim:?}");
@@ -324,7 +324,7 @@ fn primitives_have_their_effects(rt: HostRuntime) -> Result<(), NoMemory> {
     for row in EFFECTS {
         let (prim, want) = *row;
         let have = applied(rt.alloc(), &Observer::Plain, "-01 S01 ALS0", &prim);
-        effect_is(&rt, &prim, have, want)?;
+        effect_is(&rt, &prim, want, have)?;
     }
     Ok(())
 }
@@ -419,7 +419,7 @@ fn calls_have_their_effects(rt: HostRuntime) -> Result<(), NoMemory> {
     for row in CALLS {
         let (observer, prim, want) = *row;
         let have = applied(rt.alloc(), &observer, "-0123456 AS2 ALS0", &prim);
-        effect_is(&rt, &prim, have, want)?;
+        effect_is(&rt, &prim, want, have)?;
     }
     Ok(())
 }

@@ -1,6 +1,6 @@
 // Certificates: what `certify` writes is verified, and a certificate that is changed in one place has the answer
 // that is due. A certificate is any valid one, so each change puts whole parts in the place of its own.
-use crate::tests::files::text_of;
+use crate::tests::files::{PUBLISHED, text_of};
 use crate::tests::program::{answer_over, text_over};
 use crate::tests::texts::{halves, note, on_one_line, text_is};
 use std::alloc::{AllocError, Global};
@@ -73,12 +73,6 @@ fn what_is_certified_is_verified(rt: HostRuntime) -> Result<(), AllocError> {
     }
     Ok(())
 }
-
-/// A certificate of `publish` with its strongest typing: a node that is made is local until it is shared, and then
-/// it may be retired.
-pub(crate) const PUBLISHED: &str =
-    "{\"env\":[[[0,1],[[7,[]]]],[[0,1],[[0,[0,1]]]],[[0,1],[[7,[0]]]],[[0,1],[[7,[0]]]],[[0,1],[[0,[0,1]]]]],\
-     \"trees\":[],\"version\":1}";
 
 /// A certificate of `marked-link` without a typing: any address may stand anywhere.
 const ANYWHERE: &str =
@@ -226,7 +220,7 @@ fn note_texts(
     Ok(())
 }
 
-// Those that are for any certificate, and others.
+// The changes for any certificate, then those for this one.
 fn note_texts_of(
     alloc: Global,
     wrong: &mut String,
@@ -335,25 +329,6 @@ fn note_envs(alloc: Global, wrong: &mut String, certificate: &str) -> Result<(),
     Ok(())
 }
 
-fn note_envs_of(alloc: Global, wrong: &mut String, name: &str) -> Result<(), AllocError> {
-    let certificate = certificate_of(alloc, name)?;
-    note_envs(alloc, wrong, certificate.as_str())
-}
-
-// The wrong answers to the certificate of `hazards` with other environments.
-fn wrong_envs(alloc: Global) -> Result<String, AllocError> {
-    let mut wrong = String::new(alloc);
-    note_envs_of(alloc, &mut wrong, "hazards")?;
-    Ok(wrong)
-}
-
-#[test]
-fn a_certificate_with_another_environment_has_its_answer(
-    rt: HostRuntime,
-) -> Result<(), AllocError> {
-    text_is(&rt, wrong_envs(rt.alloc()), "", "hazards")
-}
-
 // What stands before the first tree of a certificate, what stands there before the first leaf, and what stands after
 // that leaf.
 fn around_leaf(certificate: &str) -> (&str, &str, &str) {
@@ -387,21 +362,22 @@ fn note_leaf(alloc: Global, wrong: &mut String, certificate: &str) -> Result<(),
     note(wrong, "leaf", have.as_str(), want.as_str())
 }
 
-fn note_leaf_of(alloc: Global, wrong: &mut String, name: &str) -> Result<(), AllocError> {
+fn note_parts(alloc: Global, wrong: &mut String, name: &str) -> Result<(), AllocError> {
     let certificate = certificate_of(alloc, name)?;
+    note_envs(alloc, wrong, certificate.as_str())?;
     note_leaf(alloc, wrong, certificate.as_str())
 }
 
-// What is answered to the certificate of `hazards` with that leaf, where it isn't what is due.
-fn wrong_leaf(alloc: Global) -> Result<String, AllocError> {
+// The wrong answers to the certificate of `hazards` with other environments, and with that leaf.
+fn wrong_parts(alloc: Global) -> Result<String, AllocError> {
     let mut wrong = String::new(alloc);
-    note_leaf_of(alloc, &mut wrong, "hazards")?;
+    note_parts(alloc, &mut wrong, "hazards")?;
     Ok(wrong)
 }
 
 #[test]
-fn leaves_and_certificates_of_others_are_told(rt: HostRuntime) -> Result<(), AllocError> {
-    text_is(&rt, wrong_leaf(rt.alloc()), "", "leaf")?;
+fn other_parts_and_certificates_of_others_are_told(rt: HostRuntime) -> Result<(), AllocError> {
+    text_is(&rt, wrong_parts(rt.alloc()), "", "hazards")?;
     text_is(
         &rt,
         verified_of(rt.alloc(), "hazards", "epochs-held"),

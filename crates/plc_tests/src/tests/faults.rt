@@ -1,13 +1,11 @@
 // Calls of the outside that fail, each in its turn: a read that fails is answered with 4, and where an output fails
 // the status is 5 and a part of the answer was written. Files that never fail and an output with a fixed room
 // answer so too.
-use crate::tests::certificates::PUBLISHED;
-use crate::tests::files::{Entries, put_copy, put_given};
-use crate::tests::program::{answered_failing, words_of};
+use crate::tests::program::{answered_failing, entries, some_files, words_of};
 use crate::tests::rows::{CHECKED, REPLAYED, SUGGESTED};
 use crate::tests::texts::{halves, note, text_is, told};
 use plc_base::NoMemory;
-use plc_cli::{Files, MemFiles, run_with_own};
+use plc_cli::{Files, run_with_own};
 use plc_outside::{FixedSink, HonestFiles};
 use std::alloc::{AllocError, Global};
 
@@ -24,8 +22,6 @@ const COMMANDS: &[(&str, u64, usize, usize)] = &[
 const VERIFIED: &str = "# verify publish certificate: 0
 verified points 5 steps 4 obligations 0
 ";
-
-const CLAIMS: &str = "at f t { u.held }";
 
 const LOCATED: &str = "# locate hazards claims: 0
 located claims 1 obligations 2885
@@ -66,23 +62,6 @@ fn due(alloc: Global, answer: &str, taken: usize) -> Result<String, AllocError> 
     }
 }
 
-fn put_all(alloc: Global, files: &mut Entries) -> Result<(), AllocError> {
-    put_given(alloc, files)?;
-    put_copy(alloc, files, "certificate", PUBLISHED.as_bytes())?;
-    put_copy(alloc, files, "claims", CLAIMS.as_bytes())
-}
-
-fn entries(alloc: Global) -> Result<Entries, AllocError> {
-    let mut files = Vec::new(alloc);
-    put_all(alloc, &mut files)?;
-    Ok(files)
-}
-
-fn files_failing(alloc: Global, read: u64) -> Result<MemFiles, AllocError> {
-    let failing = vec![in alloc; read]?;
-    Ok(MemFiles::new(alloc, entries(alloc)?, failing))
-}
-
 // The status and the text where one call of `read` fails, and one of `put`, of which each takes so many bytes; the
 // calls are counted from 1.
 fn answer_failing(
@@ -93,7 +72,7 @@ fn answer_failing(
     most: usize,
 ) -> Result<String, AllocError> {
     let words = words_of(alloc, words)?;
-    let mut files = files_failing(alloc, read)?;
+    let mut files = some_files(alloc, read)?;
     answered_failing(alloc, &mut files, &words, most, put)
 }
 
@@ -178,22 +157,16 @@ fn answered_honestly(alloc: Global, words: &str, room: usize) -> Result<String, 
     answered_fixed(alloc, &mut files, &words, room)
 }
 
-fn note_room(
-    alloc: Global,
-    wrong: &mut String,
-    words: &str,
-    room: usize,
-    want: &str,
-) -> Result<(), NoMemory> {
-    let have = answered_honestly(alloc, words, room)?;
-    Ok(note(wrong, words, have.as_str(), want)?)
+fn note_room(alloc: Global, wrong: &mut String, room: usize, want: &str) -> Result<(), NoMemory> {
+    let have = answered_honestly(alloc, "check hazards", room)?;
+    Ok(note(wrong, "check hazards", have.as_str(), want)?)
 }
 
 // What is answered to a check with so much room, where it isn't what is due.
 fn wrong_room(alloc: Global, room: usize) -> Result<String, NoMemory> {
     let want = due(alloc, wanted("check hazards"), room)?;
     let mut wrong = String::new(alloc);
-    note_room(alloc, &mut wrong, "check hazards", room, want.as_str())?;
+    note_room(alloc, &mut wrong, room, want.as_str())?;
     Ok(wrong)
 }
 

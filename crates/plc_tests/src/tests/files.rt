@@ -1,5 +1,6 @@
-// Files and schedules. A file is a section of a text: its name stands after `#`, its lines are the file. A schedule is
-// a name and the pieces of its text. Some files differ from others in a few lines, and some are made.
+// Files and schedules, a certificate and a claim. A file is a section of a text: its name stands after `#`, its lines
+// are the file. A schedule is a name and the pieces of its text. Some files differ from others in a few lines, and
+// some are made.
 use crate::tests::rows::OUTLINED;
 use plc_cli::MemFiles;
 use plc_testing::{EPOCHS, HAZARDS};
@@ -354,6 +355,18 @@ pub(crate) const SCHEDULES: &[(&str, &[&str])] = &[
     ("no-operation", &["threads 1\nstart 0 loop\n"]),
 ];
 
+// A certificate of `publish` with its strongest typing: a node that is made is local until it is shared, and then
+// it may be retired.
+pub(crate) const PUBLISHED: &str =
+    "{\"env\":[[[0,1],[[7,[]]]],[[0,1],[[0,[0,1]]]],[[0,1],[[7,[0]]]],[[0,1],[[7,[0]]]],[[0,1],[[0,[0,1]]]]],\
+     \"trees\":[],\"version\":1}";
+
+// That certificate, and a claim that is true of `hazards`.
+const JUDGED: &[(&str, &[&str])] = &[
+    ("certificate", &[PUBLISHED]),
+    ("claims", &["at f t { u.held }"]),
+];
+
 // A node is put, taken and freed again and again, each time at the same address: nearly as many lines as a
 // schedule may have, so that a free which costs the length of the history would not end in time.
 fn push_reuses(text: &mut String) -> Result<(), AllocError> {
@@ -387,7 +400,7 @@ pub(crate) fn put(
 }
 
 // The same with a copy of these bytes.
-pub(crate) fn put_copy(
+fn put_copy(
     alloc: Global,
     files: &mut Entries,
     name: &str,
@@ -469,11 +482,12 @@ fn put_stacks(alloc: Global, files: &mut Entries) -> Result<(), AllocError> {
     Ok(())
 }
 
-// The files and schedules that stand here as they are.
+// What stands here as it is.
 pub(crate) fn put_given(alloc: Global, files: &mut Entries) -> Result<(), AllocError> {
     put_sections(alloc, files, FILES)?;
     put_stacks(alloc, files)?;
-    put_pieces(alloc, files, SCHEDULES)
+    put_pieces(alloc, files, SCHEDULES)?;
+    put_pieces(alloc, files, JUDGED)
 }
 
 // The text of a file that a section has.

@@ -74,7 +74,8 @@ fn reads_text<F: Files>(
     Ok(text)
 }
 
-const SEVEN: &[(&str, usize)] = &[
+// Seven reads, each of a name and so many bytes at most, and their answers.
+const READS: &[(&str, usize)] = &[
     ("a", 3),
     ("a", 2),
     ("b", 0),
@@ -84,20 +85,16 @@ const SEVEN: &[(&str, usize)] = &[
     ("", 0),
 ];
 
-// The answers of seven reads.
+const ANSWERS: &str = "'abc' too long '' failed 'abc' failed failed ";
+
 fn memory_text(alloc: Global) -> Result<String, AllocError> {
     let mut files = some_files(alloc)?;
-    reads_text(alloc, &mut files, SEVEN)
+    reads_text(alloc, &mut files, READS)
 }
 
 #[test]
 fn files_in_memory(rt: HostRuntime) -> Result<(), AllocError> {
-    text_is(
-        &rt,
-        memory_text(rt.alloc()),
-        "'abc' too long '' failed 'abc' failed failed ",
-        "seven reads",
-    )
+    text_is(&rt, memory_text(rt.alloc()), ANSWERS, "seven reads")
 }
 
 // What a sink answers to a text.

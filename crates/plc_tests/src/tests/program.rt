@@ -1,4 +1,4 @@
-// Whole answers of `run` over files in memory. That there is memory for an answer, and which bytes an
+// Whole answers of the program over files in memory. That there is memory for an answer, and which bytes an
 // output is handed, is what no contract can say. `files.rt` has the files, and `rows.rt` the rows of answers.
 use crate::tests::files::{
     Entries, FILES, Listed, STACKS, files_of, put_changed, put_given, put_made, text_of,
@@ -14,14 +14,14 @@ fn put_all(alloc: Global, files: &mut Entries) -> Result<(), AllocError> {
     put_changed(alloc, files)
 }
 
-fn entries(alloc: Global) -> Result<Entries, AllocError> {
+pub(crate) fn entries(alloc: Global) -> Result<Entries, AllocError> {
     let mut files = Vec::new(alloc);
     put_all(alloc, &mut files)?;
     Ok(files)
 }
 
 // The files, where this call of `read` fails; the calls are counted from 1.
-fn some_files(alloc: Global, failing: u64) -> Result<MemFiles, AllocError> {
+pub(crate) fn some_files(alloc: Global, failing: u64) -> Result<MemFiles, AllocError> {
     let failing = vec![in alloc; failing]?;
     Ok(MemFiles::new(alloc, entries(alloc)?, failing))
 }
@@ -84,7 +84,7 @@ pub(crate) fn answer_over(
     answer(alloc, &mut files, words)
 }
 
-// Its text where it has this status, and no text where it has another one.
+// The text of that answer where it has this status, and no text where it has another one.
 pub(crate) fn text_over(
     alloc: Global,
     list: Listed<'_>,
@@ -95,21 +95,18 @@ pub(crate) fn text_over(
     text_under(alloc, status, answer.as_str())
 }
 
-// The status and the first line of what is answered.
-pub(crate) fn head<F: Files>(
-    alloc: Global,
-    files: &mut F,
-    words: &str,
-) -> Result<String, AllocError> {
-    let answer = answer(alloc, files, words)?;
-    first_of(alloc, answer.as_str())
-}
-
 // How much of an answer a row tells: all of it, or the status and the first line.
 #[derive(Clone, Copy)]
 pub(crate) enum Part {
     Whole,
     Head,
+}
+
+fn part_text(alloc: Global, part: Part, answer: &str) -> Result<String, AllocError> {
+    match part {
+        Part::Whole => String::from_str(alloc, answer),
+        Part::Head => first_of(alloc, answer),
+    }
 }
 
 fn part_of_answer<F: Files>(
@@ -118,10 +115,8 @@ fn part_of_answer<F: Files>(
     files: &mut F,
     words: &str,
 ) -> Result<String, AllocError> {
-    match part {
-        Part::Whole => answer(alloc, files, words),
-        Part::Head => head(alloc, files, words),
-    }
+    let answer = answer(alloc, files, words)?;
+    part_text(alloc, part, answer.as_str())
 }
 
 // Notes what is answered to words where it isn't this.

@@ -1,4 +1,4 @@
-// Replays under each reclaimer of the program, and under two of one name. What a reclaimer picks is pinned
+// Replays under each reclaimer of the program, under two of one name and under none. What a reclaimer picks is pinned
 // by its row; these are whole answers of replays, of which no contract says that there is memory for them.
 ghost use Rattle.std.specs.Prelude.{codes};
 
@@ -143,7 +143,8 @@ fn next_of(at: u32, last: u32) -> u32 {
     if at == last { 0 } else { at.wrapping_add(1) }
 }
 
-// What is drawn next is told by a number; where the three threads are, and at which address the next node is put.
+// A drawn schedule under way: the number that decides the next move, the address of the next node, and how far each
+// thread is.
 #[derive(Clone, Copy)]
 struct Turns {
     number: u32,
@@ -280,7 +281,12 @@ fn note_drawn(
     if may_end_so(answer.as_str(), may_be_forbidden) {
         Ok(())
     } else {
-        note(wrong, words, answer.as_str(), "that")
+        note(
+            wrong,
+            words,
+            answer.as_str(),
+            "an end, or a forbidden free where one may be",
+        )
     }
 }
 
@@ -343,14 +349,25 @@ fn push_list(alloc: Global, reclaimers: &mut Reclaimers) -> Result<(), AllocErro
     Ok(())
 }
 
-// `list` and its namesake, in this order or the other.
-fn two(alloc: Global, list_is_first: bool) -> Result<Reclaimers, AllocError> {
-    let mut reclaimers = Vec::new(alloc);
-    if !list_is_first {
-        push_namesake(alloc, &mut reclaimers)?;
+fn push_named(alloc: Global, reclaimers: &mut Reclaimers, name: &str) -> Result<(), AllocError> {
+    if name == "list" {
+        push_list(alloc, reclaimers)
+    } else {
+        push_namesake(alloc, reclaimers)
     }
-    push_list(alloc, &mut reclaimers)?;
-    push_namesake(alloc, &mut reclaimers)?;
+}
+
+fn push_all(alloc: Global, reclaimers: &mut Reclaimers, names: &str) -> Result<(), AllocError> {
+    for name in names.split_whitespace() {
+        push_named(alloc, reclaimers, name)?;
+    }
+    Ok(())
+}
+
+// The reclaimers of these names, in their order: `list`, or a namesake of it.
+fn reclaimers_of(alloc: Global, names: &str) -> Result<Reclaimers, AllocError> {
+    let mut reclaimers = Vec::new(alloc);
+    push_all(alloc, &mut reclaimers, names)?;
     Ok(reclaimers)
 }
 
@@ -366,31 +383,32 @@ fn answered_under(
     told(alloc, status, out.written())
 }
 
-// The same under two.
-fn answered_under_two(
+// The same under those of these names.
+fn answered_under_all(
     alloc: Global,
     files: &mut MemFiles,
     words: &[String],
-    list_is_first: bool,
+    names: &str,
 ) -> Result<String, AllocError> {
-    let reclaimers = two(alloc, list_is_first)?;
+    let reclaimers = reclaimers_of(alloc, names)?;
     answered_under(alloc, files, words, reclaimers)
 }
 
-fn answer_of_two(alloc: Global, list_is_first: bool) -> Result<String, AllocError> {
+fn answer_under_all(alloc: Global, names: &str) -> Result<String, AllocError> {
     let words = words_of(alloc, "replay hazards held list")?;
     let mut files = some_files(alloc)?;
-    answered_under_two(alloc, &mut files, &words, list_is_first)
+    answered_under_all(alloc, &mut files, &words, names)
 }
 
 #[test]
-fn of_two_reclaimers_of_one_name_the_first_counts(rt: HostRuntime) -> Result<(), AllocError> {
+fn the_first_reclaimer_of_a_name_counts(rt: HostRuntime) -> Result<(), AllocError> {
     for row in &[
-        (true, "1\nforbidden free 1 line 15\n"),
-        (false, "0\nend lines 17 events 4 freed 0\n"),
+        ("list namesake", "1\nforbidden free 1 line 15\n"),
+        ("namesake list", "0\nend lines 17 events 4 freed 0\n"),
+        ("", "3\nwords refused\n"),
     ] {
-        let (list_is_first, want) = *row;
-        text_is(&rt, answer_of_two(rt.alloc(), list_is_first), want, want)?;
+        let (names, want) = *row;
+        text_is(&rt, answer_under_all(rt.alloc(), names), want, want)?;
     }
     Ok(())
 }

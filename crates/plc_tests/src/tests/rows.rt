@@ -1,5 +1,5 @@
 // The answers that are wanted, as texts of sections: a section's head stands after `#` and has a row's commands and
-// status, its lines are the answer.
+// status, its lines are the answer. The printed stack is a file as well as an answer, and stands by itself.
 
 pub(crate) const CHECKED: &str = "# check publish: 0
 safe points 5 steps 4 locations 2 obligations 0

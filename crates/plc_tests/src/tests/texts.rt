@@ -26,33 +26,33 @@ pub(crate) fn told(alloc: Global, status: u8, written: &[u8]) -> Result<String, 
     format!(in alloc; "{status}\n{text}")
 }
 
-// Such an answer with its status beside the text.
+// An answer with its status beside the text.
 pub(crate) fn on_one_line(alloc: Global, answer: &str) -> Result<String, AllocError> {
     let (status, text) = halves(answer, "\n");
     format!(in alloc; "{status} {text}")
 }
 
-// Its status and the first line of its text.
+// The status of an answer and the first line of its text.
 pub(crate) fn first_of(alloc: Global, answer: &str) -> Result<String, AllocError> {
     let (status, text) = halves(answer, "\n");
     let (line, _) = halves(text, "\n");
     format!(in alloc; "{status} {line}")
 }
 
-// Its text where it has this status, and no text where it has another one.
+// The text of an answer where it has this status, and no text where it has another one.
 pub(crate) fn text_under(alloc: Global, status: &str, answer: &str) -> Result<String, AllocError> {
     String::from_str(alloc, answer.strip_prefix(status).unwrap_or(""))
 }
 
-// Notes what is answered to words where it isn't what is wanted.
+// Notes what a row has where it isn't what is wanted.
 pub(crate) fn note(
     wrong: &mut String,
-    words: &str,
+    row: &str,
     have: &str,
     want: &str,
 ) -> Result<(), AllocError> {
     if have != want {
-        for piece in [words, ": ", have, ", not ", want, "\n"] {
+        for piece in [row, ": ", have, ", not ", want, "\n"] {
             wrong.push_str(piece)?;
         }
     }
