@@ -87,12 +87,17 @@ fn last_before(happened: &[Happened], a: u32, line: u32) -> Option<Lines> {
     last
 }
 
-/// The free that is made where a move is one and a reclaimer is asked: that of what it picks.
-fn asked(frees: &mut Frees, m: &Move) -> Option<Move> {
-    match m {
-        Move::Free { a } => frees.again(*a).map(|a| Move::Free { a }),
-        _ => None,
+/// Makes a move again. Where it is a free and a reclaimer is asked, what it picks is freed.
+fn make_again(program: &Program, run: &mut Running, m: &Move) -> Result<Moved, NoMemory>
+    requires { IsRunOf program.now run.old.config }
+    ensures { IsRunOf program.now run.new.config }
+{
+    if let Move::Free { a } = m {
+        if let Some(picked) = run.frees.again(*a) {
+            return run.free(program, picked);
+        }
     }
+    run.make(program, m)
 }
 
 /// Notes where the node at an address was freed last, and where it was retired before that; of one that is retired a
@@ -181,17 +186,32 @@ fn account_from(
             schedule: line,
             file: step.map(|step| step.line),
         };
-        let free = asked(run.frees, m);
-        match run.make(program, free.as_ref().unwrap_or(m))? {
-            Moved::Race { kind, prim } => {
+        match make_again(program, run, m) {
+            Ok(Moved::Race { kind, prim }) => {
                 let race = Race { at, kind, prim };
                 return Ok(Some(account_of(&run.config, notes, mover(m), step, race)));
             }
-            Moved::Done => notes.note(run.config.history(), before, at)?,
-            Moved::Blocked | Moved::Forbidden { .. } => {}
+            Ok(Moved::Done) => notes.note(run.config.history(), before, at)?,
+            Ok(Moved::Blocked | Moved::Forbidden { .. }) => {}
+            Err(fault) => return Err(fault),
         }
     }
     Ok(None)
+}
+
+/// Follows moves from where a run begins, says what is known of their race, and ends the run.
+fn follow_and_tell(
+    program: &Program,
+    moves: &[Move],
+    mut run: Running,
+    notes: &mut Notes,
+) -> Result<Option<Account>, NoMemory>
+    requires indexed { IsIndexed program.now }
+    requires of_run { IsRunOf program.now run.config }
+{
+    let account = account_from(program, moves, &mut run, notes);
+    drop(run);
+    account
 }
 
 /// What is known of the race of a run. The one error is that memory runs out.
@@ -207,8 +227,9 @@ pub fn follow_to_race(
         retired: Vec::new(alloc),
         freed: Vec::new(alloc),
     };
-    match Running::begin(alloc, program, frees, trail.threads.max(1))? {
-        Some(mut run) => account_from(program, trail.moves.as_slice(), &mut run, &mut notes),
-        None => Ok(None),
+    match Running::begin(alloc, program, frees, trail.threads.max(1)) {
+        Ok(Some(run)) => follow_and_tell(program, trail.moves.as_slice(), run, &mut notes),
+        Ok(None) => Ok(None),
+        Err(fault) => Err(fault),
     }
 }

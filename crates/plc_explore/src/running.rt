@@ -67,6 +67,15 @@ impl<'a> Running<'a> {
         hear(self.frees, self.config.history(), before)?;
         Ok(moved)
     }
+
+    /// Frees an address.
+    pub fn free(&mut self, program: &Program, a: u32) -> Result<Moved, NoMemory>
+        requires { IsRunOf program.now self.old.config }
+        ensures { IsRunOf program.now self.new.config }
+    {
+        let m = Move::Free { a };
+        self.make(program, &m)
+    }
 }
 
 /// The step that a move takes, if it takes one.

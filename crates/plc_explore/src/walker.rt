@@ -105,6 +105,17 @@ impl<'a> Walker<'a> {
         Ok(false)
     }
 
+    /// Changes the order after the turn of the thread at a place of it.
+    fn went(&mut self, k: usize, turn: Turn) -> Result<Turn, NoMemory> {
+        match turn {
+            Turn::Went => self.order.moved(k, self.random)?,
+            Turn::Waits => self.order.give_way(k, self.random)?,
+            Turn::Passed => self.order.passed(k, self.random)?,
+            Turn::Raced | Turn::Stuck => {}
+        }
+        Ok(turn)
+    }
+
     /// Lets the first thread move that can.
     fn go(&mut self, program: &Program, run: &mut Running) -> Result<Turn, NoMemory>
         requires indexed { IsIndexed program.now }
@@ -113,21 +124,10 @@ impl<'a> Walker<'a> {
     {
         for k in 0..self.order.len() {
             let t = self.order.at(k);
-            match self.turn(program, run, t)? {
-                Turn::Went => {
-                    self.order.moved(k, self.random)?;
-                    return Ok(Turn::Went);
-                }
-                Turn::Waits => {
-                    self.order.give_way(k, self.random)?;
-                    return Ok(Turn::Waits);
-                }
-                Turn::Passed => {
-                    self.order.passed(k, self.random)?;
-                    return Ok(Turn::Passed);
-                }
-                Turn::Raced => return Ok(Turn::Raced),
-                Turn::Stuck => {}
+            match self.turn(program, run, t) {
+                Ok(Turn::Stuck) => {}
+                Ok(turn) => return self.went(k, turn),
+                Err(fault) => return Err(fault),
             }
         }
         Ok(Turn::Stuck)
@@ -234,19 +234,35 @@ impl<'a> Walker<'a> {
         ensures { IsRunOf program.now run.new.config }
     {
         let before = run.config.history().len();
-        match run.make(program, &m)? {
-            Moved::Done => {
-                self.moves.push(m)?;
-                self.note_retired(&run.config, before)?;
-                self.free(program, run)?;
-                Ok(Turn::Went)
-            }
-            Moved::Race { .. } => {
-                self.moves.push(m)?;
-                Ok(Turn::Raced)
-            }
-            Moved::Blocked | Moved::Forbidden { .. } => Ok(Turn::Stuck),
+        match run.make(program, &m) {
+            Ok(Moved::Done) => self.made(program, run, m, before),
+            Ok(Moved::Race { .. }) => self.raced(m),
+            Ok(Moved::Blocked | Moved::Forbidden { .. }) => Ok(Turn::Stuck),
+            Err(fault) => Err(fault),
         }
+    }
+
+    /// Keeps a move that was made after so many events, and frees what may be freed after it.
+    fn made(
+        &mut self,
+        program: &Program,
+        run: &mut Running,
+        m: Move,
+        before: usize,
+    ) -> Result<Turn, NoMemory>
+        requires { IsRunOf program.now run.old.config }
+        ensures { IsRunOf program.now run.new.config }
+    {
+        self.moves.push(m)?;
+        self.note_retired(&run.config, before)?;
+        self.free(program, run)?;
+        Ok(Turn::Went)
+    }
+
+    /// Keeps a move that is a race.
+    fn raced(&mut self, m: Move) -> Result<Turn, NoMemory> {
+        self.moves.push(m)?;
+        Ok(Turn::Raced)
     }
 
     /// Notes what the events after so many retire.
@@ -273,11 +289,10 @@ impl<'a> Walker<'a> {
             let Some(a) = run.frees.next(self.plan.retired(), self.random) else {
                 return Ok(());
             };
-            let m = Move::Free { a };
-            if run.make(program, &m)? != Moved::Done {
+            if run.free(program, a)? != Moved::Done {
                 return Ok(());
             }
-            self.moves.push(m)?;
+            self.moves.push(Move::Free { a })?;
             self.plan.free(a)?;
         }
         Ok(())
