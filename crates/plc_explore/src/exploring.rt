@@ -19,33 +19,24 @@ pub struct Explored {
     pub moves: u64,
 }
 
-/// A run that was drawn: how many moves it has, and itself where it races.
+/// A run that was drawn, and whether it races.
 #[derive(Drop)]
 struct Drawn {
-    trail: Option<Trail>,
-    moves: u64,
+    trail: Trail,
+    races: bool,
 }
 
-/// Ends a walk, and answers what it drew.
-fn end_walk(walker: Walker, races: bool) -> Drawn {
-    let moves = walker.count();
-    if !races {
-        return Drawn { trail: None, moves };
-    }
-    Drawn {
-        trail: Some(walker.into_trail()),
-        moves,
-    }
-}
-
-/// Walks from where a run begins, and ends the run.
-fn walk(walker: &mut Walker, program: &Program, mut run: Running) -> Result<bool, NoMemory>
+/// Walks from where a run begins, answers whether it races, and ends the run.
+fn walk(walker: &mut Walker, program: &Program, mut run: Running) -> Result<Option<bool>, NoMemory>
     requires indexed { IsIndexed program.now }
     requires of_run { IsRunOf program.now run.config }
 {
     let races = walker.walk(program, &mut run);
     drop(run);
-    races
+    match races {
+        Ok(races) => Ok(Some(races)),
+        Err(fault) => Err(fault),
+    }
 }
 
 /// Draws a run, and answers whether it races. `None` comes where the program has no run.
@@ -58,7 +49,7 @@ fn begin_and_walk(
     requires { IsIndexed program.now }
 {
     match Running::begin(alloc, program, frees, walker.threads()) {
-        Ok(Some(run)) => Ok(Some(walk(walker, program, run)?)),
+        Ok(Some(run)) => walk(walker, program, run),
         Ok(None) => Ok(None),
         Err(fault) => Err(fault),
     }
@@ -77,8 +68,10 @@ fn draw(
         return Ok(None);
     }
     let mut walker = Walker::new(alloc, random)?;
-    match begin_and_walk(alloc, program, frees, &mut walker) {
-        Ok(Some(races)) => Ok(Some(end_walk(walker, races))),
+    let races = begin_and_walk(alloc, program, frees, &mut walker);
+    let trail = walker.into_trail();
+    match races {
+        Ok(Some(races)) => Ok(Some(Drawn { trail, races })),
         Ok(None) => Ok(None),
         Err(fault) => Err(fault),
     }
@@ -88,8 +81,10 @@ impl Explored {
     /// Counts a run that was drawn, and keeps it if it races.
     fn add(&mut self, drawn: Drawn) {
         self.runs = self.runs.saturating_add(1);
-        self.moves = self.moves.saturating_add(drawn.moves);
-        self.trail = drawn.trail;
+        self.moves = self.moves.saturating_add(drawn.trail.moves.len() as u64);
+        if drawn.races {
+            self.trail = Some(drawn.trail);
+        }
     }
 }
 

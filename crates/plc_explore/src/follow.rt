@@ -20,6 +20,21 @@ pub struct RacingRun {
     pub threads: u32,
 }
 
+impl RacingRun {
+    /// Whether a move is kept.
+    pub fn is_kept(&self, number: usize) -> bool {
+        self.kept.get(number) == Some(&true)
+    }
+
+    /// Whether a move is a free that is kept.
+    pub fn is_kept_free(&self, number: usize) -> bool {
+        match self.moves.get(number) {
+            Some(Move::Free { .. }) => self.is_kept(number),
+            _ => false,
+        }
+    }
+}
+
 /// Where a thread stood before a move of its own: the number of the move, the thread, and the point, if it was in an
 /// operation.
 #[derive(Clone, Copy)]
@@ -62,11 +77,12 @@ fn stand_of(config: &Config, number: usize, m: &Move) -> Option<Stand> {
 }
 
 /// What came of a move, of which this is said where there was none.
-fn outcome(moved: Moved, otherwise: Met) -> Met {
-    match moved {
-        Moved::Done => Met::Goes,
-        Moved::Race { .. } => Met::Races,
-        Moved::Blocked | Moved::Forbidden { .. } => otherwise,
+fn outcome(made: Result<Moved, NoMemory>, otherwise: Met) -> Result<Met, NoMemory> {
+    match made {
+        Ok(Moved::Done) => Ok(Met::Goes),
+        Ok(Moved::Race { .. }) => Ok(Met::Races),
+        Ok(Moved::Blocked | Moved::Forbidden { .. }) => Ok(otherwise),
+        Err(fault) => Err(fault),
     }
 }
 
@@ -78,10 +94,10 @@ fn make_again(program: &Program, run: &mut Running, m: &Move) -> Result<Met, NoM
 {
     match m {
         Move::Free { a } => match run.frees.again(*a) {
-            Some(a) => Ok(outcome(run.free(program, a)?, Met::Idle)),
+            Some(a) => outcome(run.free(program, a), Met::Idle),
             None => Ok(Met::Idle),
         },
-        _ => Ok(outcome(run.make(program, m)?, Met::None)),
+        _ => outcome(run.make(program, m), Met::None),
     }
 }
 
@@ -95,7 +111,7 @@ fn follow_from(
     requires { IsRunOf program.now run.old.config }
 {
     for (number, m) in recorded.moves.iter().enumerate() {
-        if recorded.kept.get(number) != Some(&true) {
+        if !recorded.is_kept(number) {
             continue;
         }
         if let Some(stand) = stand_of(&run.config, number, m) {

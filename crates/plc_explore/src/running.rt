@@ -29,6 +29,14 @@ pub fn mover(m: &Move) -> Option<u32> {
     }
 }
 
+/// The address that an event retires.
+pub fn retired_in(event: &Event) -> Option<u32> {
+    match *event {
+        Event::Call { f, a, .. } if f.is_retire() => a,
+        Event::Call { .. } | Event::Free { .. } | Event::Done { .. } => None,
+    }
+}
+
 /// Hands over the events after so many.
 fn hear(frees: &mut Frees, history: &[Event], before: usize) -> Result<(), NoMemory> {
     for event in history.iter().skip(before) {

@@ -48,8 +48,10 @@ impl Shortening {
 
     /// Keeps none after so many moves.
     fn keep_first(&mut self, count: usize) {
-        for kept in self.run.kept.iter_mut().skip(count) {
-            *kept = false;
+        for number in count..self.run.kept.len() {
+            if let Some(kept) = self.run.kept.get_mut(number) {
+                *kept = false;
+            }
         }
     }
 
@@ -135,8 +137,11 @@ fn leave_round(
     requires { MayRun program.now }
 {
     for from in 0..own.len() {
-        if is_round(own, from, length) && tries_without_all(s, program, frees, own, from, length)? {
-            return Ok(true);
+        if is_round(own, from, length) {
+            match tries_without_all(s, program, frees, own, from, length) {
+                Ok(false) => {}
+                tried => return tried,
+            }
         }
     }
     Ok(false)
@@ -152,8 +157,9 @@ fn leave_most(
     requires { MayRun program.now }
 {
     for k in 0..own.len() {
-        if leave_round(s, program, frees, own, own.len() - k)? {
-            return Ok(true);
+        match leave_round(s, program, frees, own, own.len() - k) {
+            Ok(false) => {}
+            tried => return tried,
         }
     }
     Ok(false)
@@ -177,12 +183,11 @@ fn leave_free(s: &mut Shortening, program: &Program, frees: &mut Frees) -> Resul
     requires { MayRun program.now }
 {
     for number in 0..s.run.moves.len() {
-        let is_free = s.run.moves.get(number).is_some_and(|m| mover(m).is_none());
-        if is_free
-            && s.run.kept.get(number) == Some(&true)
-            && s.tries_without(program, frees, &[number])?
-        {
-            return Ok(true);
+        if s.run.is_kept_free(number) {
+            match s.tries_without(program, frees, &[number]) {
+                Ok(false) => {}
+                tried => return tried,
+            }
         }
     }
     Ok(false)
@@ -194,11 +199,13 @@ fn leave_any(s: &mut Shortening, program: &Program, frees: &mut Frees) -> Result
 {
     // An attempt that failed has followed other moves, so what is kept is followed again.
     for t in 0..s.run.threads {
-        if !s.races(program, frees)? {
-            return Ok(false);
+        match s.races(program, frees) {
+            Ok(true) => {}
+            races => return races,
         }
-        if leave_some(s, program, frees, t)? {
-            return Ok(true);
+        match leave_some(s, program, frees, t) {
+            Ok(false) => {}
+            tried => return tried,
         }
     }
     leave_free(s, program, frees)
@@ -286,8 +293,10 @@ fn leave_all(s: &mut Shortening, program: &Program, frees: &mut Frees) -> Result
     requires { MayRun program.now }
 {
     for _ in 0..s.run.moves.len() {
-        if !leave_any(s, program, frees)? {
-            return Ok(());
+        match leave_any(s, program, frees) {
+            Ok(true) => {}
+            Ok(false) => return Ok(()),
+            Err(fault) => return Err(fault),
         }
     }
     Ok(())
