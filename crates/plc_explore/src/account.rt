@@ -5,7 +5,7 @@ ghost use Rattle.plc_explore.specs.Running.{IsIndexed, IsRunOf};
 use crate::frees::Frees;
 use crate::pointers::Seen;
 use crate::program::Program;
-use crate::running::{Running, mover, step_of};
+use crate::running::{Running, mover, retired_in, step_of};
 use crate::trail::Trail;
 use plc_auto::Event;
 use plc_base::NoMemory;
@@ -25,10 +25,11 @@ pub struct Lines {
     pub file: Option<u32>,
 }
 
-/// An event that is told: what happened to an address, and where.
+/// An event that is told: that an address was freed, or retired, and where.
 #[derive(Clone, Copy)]
 struct Happened {
     a: u32,
+    is_free: bool,
     at: Lines,
 }
 
@@ -56,43 +57,55 @@ pub struct Account {
 /// What is noted while a run is followed.
 #[derive(Drop)]
 struct Notes {
-    retired: Vec<Happened>,
-    freed: Vec<Happened>,
+    happened: Vec<Happened>,
+}
+
+/// What an event that happened here frees or retires.
+fn happened_in(event: &Event, at: Lines) -> Option<Happened> {
+    let (a, is_free) = match *event {
+        Event::Free { a } => (Some(a), true),
+        _ => (retired_in(event), false),
+    };
+    match a {
+        Some(a) => Some(Happened { a, is_free, at }),
+        None => None,
+    }
 }
 
 impl Notes {
     /// Notes the events after so many, which happened at one place.
     fn note(&mut self, history: &[Event], before: usize, at: Lines) -> Result<(), NoMemory> {
         for event in history.iter().skip(before) {
-            match *event {
-                Event::Call { f, a: Some(a), .. } if f.is_retire() => {
-                    self.retired.push(Happened { a, at })?;
-                }
-                Event::Free { a } => self.freed.push(Happened { a, at })?,
-                Event::Call { .. } | Event::Done { .. } => {}
+            if let Some(happened) = happened_in(event, at) {
+                self.happened.push(happened)?;
             }
         }
         Ok(())
     }
 }
 
-/// Where something happened to an address for the last time before a line of the schedule.
-fn last_before(happened: &[Happened], a: u32, line: u32) -> Option<Lines> {
+/// Where an address was freed, or retired, for the last time before a line of the schedule.
+fn last_before(notes: &Notes, is_free: bool, a: u32, line: u32) -> Option<Lines> {
     let mut last = None;
-    for one in happened {
-        if one.a == a && one.at.schedule < line {
+    for one in &notes.happened {
+        if one.is_free == is_free && one.a == a && one.at.schedule < line {
             last = Some(one.at);
         }
     }
     last
 }
 
-/// The free that is made where a move is one and a reclaimer is asked: that of what it picks.
-fn asked(frees: &mut Frees, m: &Move) -> Option<Move> {
-    match m {
-        Move::Free { a } => frees.again(*a).map(|a| Move::Free { a }),
-        _ => None,
+/// Makes a move again. Where it is a free and a reclaimer is asked, what it picks is freed.
+fn make_again(program: &Program, run: &mut Running, m: &Move) -> Result<Moved, NoMemory>
+    requires { IsRunOf program.now run.old.config }
+    ensures { IsRunOf program.now run.new.config }
+{
+    if let Move::Free { a } = m {
+        if let Some(picked) = run.frees.again(*a) {
+            return run.free(program, picked);
+        }
     }
+    run.make(program, m)
 }
 
 /// Notes where the node at an address was freed last, and where it was retired before that; of one that is retired a
@@ -100,12 +113,12 @@ fn asked(frees: &mut Frees, m: &Move) -> Option<Move> {
 fn tell_node(account: &mut Account, notes: &Notes, a: u32) {
     let mut until = account.at.schedule;
     if account.kind != RaceKind::Double {
-        account.freed = last_before(&notes.freed, a, until);
+        account.freed = last_before(notes, true, a, until);
     }
     if let Some(freed) = account.freed {
         until = freed.schedule;
     }
-    account.retired = last_before(&notes.retired, a, until);
+    account.retired = last_before(notes, false, a, until);
 }
 
 /// Notes of a pointer that is invalid before a step, or whose node is retired a second time, where its node was retired
@@ -181,17 +194,32 @@ fn account_from(
             schedule: line,
             file: step.map(|step| step.line),
         };
-        let free = asked(run.frees, m);
-        match run.make(program, free.as_ref().unwrap_or(m))? {
-            Moved::Race { kind, prim } => {
+        match make_again(program, run, m) {
+            Ok(Moved::Race { kind, prim }) => {
                 let race = Race { at, kind, prim };
                 return Ok(Some(account_of(&run.config, notes, mover(m), step, race)));
             }
-            Moved::Done => notes.note(run.config.history(), before, at)?,
-            Moved::Blocked | Moved::Forbidden { .. } => {}
+            Ok(Moved::Done) => notes.note(run.config.history(), before, at)?,
+            Ok(Moved::Blocked | Moved::Forbidden { .. }) => {}
+            Err(fault) => return Err(fault),
         }
     }
     Ok(None)
+}
+
+/// Follows moves from where a run begins, says what is known of their race, and ends the run.
+fn follow_and_tell(
+    program: &Program,
+    moves: &[Move],
+    mut run: Running,
+    notes: &mut Notes,
+) -> Result<Option<Account>, NoMemory>
+    requires indexed { IsIndexed program.now }
+    requires of_run { IsRunOf program.now run.config }
+{
+    let account = account_from(program, moves, &mut run, notes);
+    drop(run);
+    account
 }
 
 /// What is known of the race of a run. The one error is that memory runs out.
@@ -204,11 +232,11 @@ pub fn follow_to_race(
     requires { IsIndexed program.now }
 {
     let mut notes = Notes {
-        retired: Vec::new(alloc),
-        freed: Vec::new(alloc),
+        happened: Vec::new(alloc),
     };
-    match Running::begin(alloc, program, frees, trail.threads.max(1))? {
-        Some(mut run) => account_from(program, trail.moves.as_slice(), &mut run, &mut notes),
-        None => Ok(None),
+    match Running::begin(alloc, program, frees, trail.threads.max(1)) {
+        Ok(Some(run)) => follow_and_tell(program, trail.moves.as_slice(), run, &mut notes),
+        Ok(None) => Ok(None),
+        Err(fault) => Err(fault),
     }
 }

@@ -1,5 +1,5 @@
 // Runs are drawn one after the other, until one races or as many moves were made as there may be.
-ghost use Rattle.plc_explore.specs.Running.{IsIndexed};
+ghost use Rattle.plc_explore.specs.Running.{IsIndexed, IsRunOf};
 
 use crate::frees::Frees;
 use crate::program::Program;
@@ -19,11 +19,40 @@ pub struct Explored {
     pub moves: u64,
 }
 
-/// A run that was drawn: how many moves it has, and itself where it races.
+/// A run that was drawn, and whether it races.
 #[derive(Drop)]
 struct Drawn {
-    trail: Option<Trail>,
-    moves: u64,
+    trail: Trail,
+    races: bool,
+}
+
+/// Walks from where a run begins, answers whether it races, and ends the run.
+fn walk(walker: &mut Walker, program: &Program, mut run: Running) -> Result<Option<bool>, NoMemory>
+    requires indexed { IsIndexed program.now }
+    requires of_run { IsRunOf program.now run.config }
+{
+    let races = walker.walk(program, &mut run);
+    drop(run);
+    match races {
+        Ok(races) => Ok(Some(races)),
+        Err(fault) => Err(fault),
+    }
+}
+
+/// Draws a run, and answers whether it races. `None` comes where the program has no run.
+fn begin_and_walk(
+    alloc: Global,
+    program: &Program,
+    frees: &mut Frees,
+    walker: &mut Walker,
+) -> Result<Option<bool>, NoMemory>
+    requires { IsIndexed program.now }
+{
+    match Running::begin(alloc, program, frees, walker.threads()) {
+        Ok(Some(run)) => walk(walker, program, run),
+        Ok(None) => Ok(None),
+        Err(fault) => Err(fault),
+    }
 }
 
 /// Draws a run. `None` comes where the program has no run, or none with a move.
@@ -39,13 +68,48 @@ fn draw(
         return Ok(None);
     }
     let mut walker = Walker::new(alloc, random)?;
-    let Some(mut run) = Running::begin(alloc, program, frees, walker.threads())? else {
-        return Ok(None);
-    };
-    let races = walker.walk(program, &mut run)?;
-    let moves = walker.count();
-    let trail = races.then(|| walker.into_trail());
-    Ok(Some(Drawn { trail, moves }))
+    let races = begin_and_walk(alloc, program, frees, &mut walker);
+    let trail = walker.into_trail();
+    match races {
+        Ok(Some(races)) => Ok(Some(Drawn { trail, races })),
+        Ok(None) => Ok(None),
+        Err(fault) => Err(fault),
+    }
+}
+
+impl Explored {
+    /// Counts a run that was drawn, and keeps it if it races.
+    fn add(&mut self, drawn: Drawn) {
+        self.runs = self.runs.saturating_add(1);
+        self.moves = self.moves.saturating_add(drawn.trail.moves.len() as u64);
+        if drawn.races {
+            self.trail = Some(drawn.trail);
+        }
+    }
+}
+
+/// Draws runs, which are counted here, until one races, or until this many moves were made.
+fn explore_into(
+    explored: &mut Explored,
+    alloc: Global,
+    program: &Program,
+    frees: &mut Frees,
+    random: &mut Random,
+    most: u64,
+) -> Result<(), NoMemory>
+    requires { IsIndexed program.now }
+{
+    for _ in 0..most {
+        match draw(alloc, program, frees, random) {
+            Ok(Some(drawn)) => explored.add(drawn),
+            Ok(None) => return Ok(()),
+            Err(fault) => return Err(fault),
+        }
+        if explored.trail.is_some() || explored.moves >= most {
+            return Ok(());
+        }
+    }
+    Ok(())
 }
 
 /// Draws runs until one races, or until this many moves were made. Where the program has no run, or no operation, none
@@ -64,16 +128,6 @@ pub fn explore(
         runs: 0,
         moves: 0,
     };
-    for _ in 0..most {
-        let Some(drawn) = draw(alloc, program, frees, random)? else {
-            return Ok(explored);
-        };
-        explored.runs = explored.runs.saturating_add(1);
-        explored.moves = explored.moves.saturating_add(drawn.moves);
-        explored.trail = drawn.trail;
-        if explored.trail.is_some() || explored.moves >= most {
-            return Ok(explored);
-        }
-    }
+    explore_into(&mut explored, alloc, program, frees, random, most)?;
     Ok(explored)
 }

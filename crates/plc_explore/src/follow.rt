@@ -20,6 +20,21 @@ pub struct RacingRun {
     pub threads: u32,
 }
 
+impl RacingRun {
+    /// Whether a move is kept.
+    pub fn is_kept(&self, number: usize) -> bool {
+        self.kept.get(number) == Some(&true)
+    }
+
+    /// Whether a move is a free that is kept.
+    pub fn is_kept_free(&self, number: usize) -> bool {
+        match self.moves.get(number) {
+            Some(Move::Free { .. }) => self.is_kept(number),
+            _ => false,
+        }
+    }
+}
+
 /// Where a thread stood before a move of its own: the number of the move, the thread, and the point, if it was in an
 /// operation.
 #[derive(Clone, Copy)]
@@ -61,16 +76,14 @@ fn stand_of(config: &Config, number: usize, m: &Move) -> Option<Stand> {
     Some(Stand { number, t, at })
 }
 
-/// Makes a move, of which this is said where there is none.
-fn make_or(program: &Program, run: &mut Running, m: &Move, otherwise: Met) -> Result<Met, NoMemory>
-    requires { IsRunOf program.now run.old.config }
-    ensures { IsRunOf program.now run.new.config }
-{
-    Ok(match run.make(program, m)? {
-        Moved::Done => Met::Goes,
-        Moved::Race { .. } => Met::Races,
-        Moved::Blocked | Moved::Forbidden { .. } => otherwise,
-    })
+/// What came of a move, of which this is said where there was none.
+fn outcome(made: Result<Moved, NoMemory>, otherwise: Met) -> Result<Met, NoMemory> {
+    match made {
+        Ok(Moved::Done) => Ok(Met::Goes),
+        Ok(Moved::Race { .. }) => Ok(Met::Races),
+        Ok(Moved::Blocked | Moved::Forbidden { .. }) => Ok(otherwise),
+        Err(fault) => Err(fault),
+    }
 }
 
 /// Makes a move again. A free is that of the address that is to be freed now; where there is none, or it may not be
@@ -81,10 +94,10 @@ fn make_again(program: &Program, run: &mut Running, m: &Move) -> Result<Met, NoM
 {
     match m {
         Move::Free { a } => match run.frees.again(*a) {
-            Some(a) => make_or(program, run, &Move::Free { a }, Met::Idle),
+            Some(a) => outcome(run.free(program, a), Met::Idle),
             None => Ok(Met::Idle),
         },
-        _ => make_or(program, run, m, Met::None),
+        _ => outcome(run.make(program, m), Met::None),
     }
 }
 
@@ -98,20 +111,35 @@ fn follow_from(
     requires { IsRunOf program.now run.old.config }
 {
     for (number, m) in recorded.moves.iter().enumerate() {
-        if !recorded.kept.get(number).copied().unwrap_or(false) {
+        if !recorded.is_kept(number) {
             continue;
         }
         if let Some(stand) = stand_of(&run.config, number, m) {
             way.stands.push(stand)?;
         }
-        match make_again(program, run, m)? {
-            Met::Goes => {}
-            Met::Idle => way.idle.push(number)?,
-            Met::Races => return Ok(Some(number.saturating_add(1))),
-            Met::None => return Ok(None),
+        match make_again(program, run, m) {
+            Ok(Met::Goes) => {}
+            Ok(Met::Idle) => way.idle.push(number)?,
+            Ok(Met::Races) => return Ok(Some(number.saturating_add(1))),
+            Ok(Met::None) => return Ok(None),
+            Err(fault) => return Err(fault),
         }
     }
     Ok(None)
+}
+
+/// Follows the moves that are kept from where a run begins, and ends the run.
+fn follow_and_end(
+    program: &Program,
+    mut run: Running,
+    recorded: &RacingRun,
+    way: &mut Way,
+) -> Result<Option<usize>, NoMemory>
+    requires { IsRunOf program.now run.config }
+{
+    let count = follow_from(program, &mut run, recorded, way);
+    drop(run);
+    count
 }
 
 /// Follows the moves that are kept, from where runs begin, and answers how many of all moves there are up to the race,
@@ -127,8 +155,9 @@ pub fn follow(
 {
     way.stands.clear();
     way.idle.clear();
-    match Running::begin(alloc, program, frees, recorded.threads.max(1))? {
-        Some(mut run) => follow_from(program, &mut run, recorded, way),
-        None => Ok(None),
+    match Running::begin(alloc, program, frees, recorded.threads.max(1)) {
+        Ok(Some(run)) => follow_and_end(program, run, recorded, way),
+        Ok(None) => Ok(None),
+        Err(fault) => Err(fault),
     }
 }

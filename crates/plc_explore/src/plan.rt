@@ -37,14 +37,20 @@ fn drawn_threads(random: &mut Random) -> u32 {
     }
 }
 
+/// How many operations each thread may begin: one to so many.
+fn drawn_shares(alloc: Global, random: &mut Random, most: u32) -> Result<Vec<u32>, NoMemory> {
+    let mut left = Vec::new(alloc);
+    for _ in 0..drawn_threads(random) {
+        left.push(random.below(most) + 1)?;
+    }
+    Ok(left)
+}
+
 impl Plan {
     /// A plan that is drawn.
     pub fn draw(alloc: Global, random: &mut Random) -> Result<Plan, NoMemory> {
         let most = random.below(MOST_OPERATIONS) + 1;
-        let mut left = Vec::new(alloc);
-        for _ in 0..drawn_threads(random) {
-            left.push(random.below(most) + 1)?;
-        }
+        let left = drawn_shares(alloc, random, most)?;
         Ok(Plan {
             alloc,
             left,

@@ -29,6 +29,14 @@ pub fn mover(m: &Move) -> Option<u32> {
     }
 }
 
+/// The address that an event retires.
+pub fn retired_in(event: &Event) -> Option<u32> {
+    match *event {
+        Event::Call { f, a, .. } if f.is_retire() => a,
+        Event::Call { .. } | Event::Free { .. } | Event::Done { .. } => None,
+    }
+}
+
 /// Hands over the events after so many.
 fn hear(frees: &mut Frees, history: &[Event], before: usize) -> Result<(), NoMemory> {
     for event in history.iter().skip(before) {
@@ -66,6 +74,15 @@ impl<'a> Running<'a> {
         let moved = self.config.step(program.flow, program.observer, m)?;
         hear(self.frees, self.config.history(), before)?;
         Ok(moved)
+    }
+
+    /// Frees an address.
+    pub fn free(&mut self, program: &Program, a: u32) -> Result<Moved, NoMemory>
+        requires { IsRunOf program.now self.old.config }
+        ensures { IsRunOf program.now self.new.config }
+    {
+        let m = Move::Free { a };
+        self.make(program, &m)
     }
 }
 

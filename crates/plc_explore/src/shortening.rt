@@ -21,30 +21,35 @@ struct Shortening {
     way: Way,
 }
 
+/// Leaves out the moves of these numbers.
+fn leave_out(kept: &mut [bool], numbers: &[usize]) {
+    for number in numbers {
+        if let Some(kept) = kept.get_mut(*number) {
+            *kept = false;
+        }
+    }
+}
+
 impl Shortening {
     /// Follows the moves that are kept, and keeps none after the race, and no free that did nothing.
     fn races(&mut self, program: &Program, frees: &mut Frees) -> Result<bool, NoMemory>
         requires { MayRun program.now }
     {
-        let all = follow(self.alloc, program, frees, &self.run, &mut self.way)?;
-        let Some(count) = all else {
-            return Ok(false);
-        };
-        for (number, kept) in self.run.kept.iter_mut().enumerate() {
-            *kept = *kept && number < count;
-        }
-        for number in &self.way.idle {
-            if let Some(kept) = self.run.kept.get_mut(*number) {
-                *kept = false;
+        match follow(self.alloc, program, frees, &self.run, &mut self.way) {
+            Ok(Some(count)) => {
+                self.keep_first(count);
+                leave_out(&mut self.run.kept, &self.way.idle);
+                Ok(true)
             }
+            Ok(None) => Ok(false),
+            Err(fault) => Err(fault),
         }
-        Ok(true)
     }
 
-    /// Leaves out the moves of these numbers.
-    fn leave_out(&mut self, numbers: &[usize]) {
-        for number in numbers {
-            if let Some(kept) = self.run.kept.get_mut(*number) {
+    /// Keeps none after so many moves.
+    fn keep_first(&mut self, count: usize) {
+        for number in count..self.run.kept.len() {
+            if let Some(kept) = self.run.kept.get_mut(number) {
                 *kept = false;
             }
         }
@@ -60,12 +65,12 @@ impl Shortening {
         requires { MayRun program.now }
     {
         let before = Vec::from_slice(self.alloc, &self.run.kept)?;
-        self.leave_out(numbers);
-        let races = self.races(program, frees)?;
-        if !races {
+        leave_out(&mut self.run.kept, numbers);
+        let races = self.races(program, frees);
+        if matches!(races, Ok(false)) {
             self.run.kept = before;
         }
-        Ok(races)
+        races
     }
 
     /// The moves of a thread that are kept, each with where the thread stood before it.
@@ -106,6 +111,21 @@ fn numbers_of(
     Ok(numbers)
 }
 
+/// Leaves out the moves of a thread that this lists, if the run then still races.
+fn tries_without_all(
+    s: &mut Shortening,
+    program: &Program,
+    frees: &mut Frees,
+    own: &[Stand],
+    from: usize,
+    length: usize,
+) -> Result<bool, NoMemory>
+    requires { MayRun program.now }
+{
+    let numbers = numbers_of(s.alloc, own, from, length)?;
+    s.tries_without(program, frees, &numbers)
+}
+
 /// Leaves out so many moves of a thread in one place, if there is one where the run then still races.
 fn leave_round(
     s: &mut Shortening,
@@ -118,10 +138,28 @@ fn leave_round(
 {
     for from in 0..own.len() {
         if is_round(own, from, length) {
-            let numbers = numbers_of(s.alloc, own, from, length)?;
-            if s.tries_without(program, frees, &numbers)? {
-                return Ok(true);
+            match tries_without_all(s, program, frees, own, from, length) {
+                Ok(false) => {}
+                tried => return tried,
             }
+        }
+    }
+    Ok(false)
+}
+
+/// Leaves out some of these moves of a thread, the most that go at once, if there are any.
+fn leave_most(
+    s: &mut Shortening,
+    program: &Program,
+    frees: &mut Frees,
+    own: &[Stand],
+) -> Result<bool, NoMemory>
+    requires { MayRun program.now }
+{
+    for k in 0..own.len() {
+        match leave_round(s, program, frees, own, own.len() - k) {
+            Ok(false) => {}
+            tried => return tried,
         }
     }
     Ok(false)
@@ -137,13 +175,7 @@ fn leave_some(
     requires { MayRun program.now }
 {
     let own = s.moves_of(t)?;
-    for k in 0..own.len() {
-        let length = own.len() - k;
-        if leave_round(s, program, frees, &own, length)? {
-            return Ok(true);
-        }
-    }
-    Ok(false)
+    leave_most(s, program, frees, &own)
 }
 
 /// Leaves out one free, if there is one that isn't needed.
@@ -151,12 +183,11 @@ fn leave_free(s: &mut Shortening, program: &Program, frees: &mut Frees) -> Resul
     requires { MayRun program.now }
 {
     for number in 0..s.run.moves.len() {
-        let is_free = s.run.moves.get(number).is_some_and(|m| mover(m).is_none());
-        if is_free
-            && s.run.kept.get(number) == Some(&true)
-            && s.tries_without(program, frees, &[number])?
-        {
-            return Ok(true);
+        if s.run.is_kept_free(number) {
+            match s.tries_without(program, frees, &[number]) {
+                Ok(false) => {}
+                tried => return tried,
+            }
         }
     }
     Ok(false)
@@ -168,11 +199,13 @@ fn leave_any(s: &mut Shortening, program: &Program, frees: &mut Frees) -> Result
 {
     // An attempt that failed has followed other moves, so what is kept is followed again.
     for t in 0..s.run.threads {
-        if !s.races(program, frees)? {
-            return Ok(false);
+        match s.races(program, frees) {
+            Ok(true) => {}
+            races => return races,
         }
-        if leave_some(s, program, frees, t)? {
-            return Ok(true);
+        match leave_some(s, program, frees, t) {
+            Ok(false) => {}
+            tried => return tried,
         }
     }
     leave_free(s, program, frees)
@@ -190,39 +223,83 @@ fn number_among(met: &mut Vec<u32>, t: u32) -> Result<u32, NoMemory> {
     Ok(k)
 }
 
-/// The same move by the thread with its number among those that were met so far.
-fn renumbered(met: &mut Vec<u32>, m: Move) -> Result<Move, NoMemory> {
-    Ok(match m {
-        Move::Start { t, op, args } => Move::Start {
-            t: number_among(met, t)?,
-            op,
-            args,
-        },
-        Move::Step { t, nth, addr } => Move::Step {
-            t: number_among(met, t)?,
-            nth,
-            addr,
-        },
-        Move::Return { t } => Move::Return {
-            t: number_among(met, t)?,
-        },
+/// The same move by another thread.
+fn by_thread(m: Move, t: u32) -> Move {
+    match m {
+        Move::Start { op, args, .. } => Move::Start { t, op, args },
+        Move::Step { nth, addr, .. } => Move::Step { t, nth, addr },
+        Move::Return { .. } => Move::Return { t },
         Move::Free { a } => Move::Free { a },
-    })
+    }
+}
+
+/// The number of the thread that makes a move among those that were met so far; of a free any number.
+fn mover_among(met: &mut Vec<u32>, m: &Move) -> Result<u32, NoMemory> {
+    match mover(m) {
+        Some(t) => number_among(met, t),
+        None => Ok(0),
+    }
+}
+
+/// Adds a move if it is kept, by the thread with its number among those that were met so far.
+fn add_kept(
+    moves: &mut Items<Move>,
+    met: &mut Vec<u32>,
+    m: Move,
+    is_kept: bool,
+) -> Result<(), NoMemory> {
+    if is_kept {
+        let t = mover_among(met, &m)?;
+        moves.push(by_thread(m, t))?;
+    }
+    Ok(())
+}
+
+/// Adds the moves that are kept.
+fn add_all_kept(
+    moves: &mut Items<Move>,
+    met: &mut Vec<u32>,
+    run: RacingRun,
+) -> Result<(), NoMemory> {
+    for (m, is_kept) in run.moves.into_iter().zip(run.kept.into_iter()) {
+        add_kept(moves, met, m, is_kept)?;
+    }
+    Ok(())
 }
 
 /// The moves that are kept, with threads numbered in the order in which they move first.
 fn kept_moves(alloc: Global, run: RacingRun) -> Result<Trail, NoMemory> {
     let mut met = Vec::new(alloc);
     let mut moves = Items::new(alloc);
-    for (m, kept) in run.moves.into_iter().zip(run.kept.into_iter()) {
-        if kept {
-            moves.push(renumbered(&mut met, m)?)?;
-        }
-    }
+    add_all_kept(&mut moves, &mut met, run)?;
     Ok(Trail {
         threads: met.len().clamp(1, 64) as u32,
         moves,
     })
+}
+
+/// A run of which all moves are kept.
+fn all_kept(alloc: Global, trail: Trail) -> Result<RacingRun, NoMemory> {
+    let kept = vec![in alloc; true; trail.moves.len()]?;
+    Ok(RacingRun {
+        moves: trail.moves.into_vec(),
+        kept,
+        threads: trail.threads,
+    })
+}
+
+/// Leaves out moves until none is left that isn't needed.
+fn leave_all(s: &mut Shortening, program: &Program, frees: &mut Frees) -> Result<(), NoMemory>
+    requires { MayRun program.now }
+{
+    for _ in 0..s.run.moves.len() {
+        match leave_any(s, program, frees) {
+            Ok(true) => {}
+            Ok(false) => return Ok(()),
+            Err(fault) => return Err(fault),
+        }
+    }
+    Ok(())
 }
 
 /// Makes a run that races short. The run that is answered races, where the one that is given does; no clause says so,
@@ -235,23 +312,16 @@ pub fn shorten(
 ) -> Result<Trail, NoMemory>
     requires { MayRun program.now }
 {
-    let moves = trail.moves.into_vec();
     let mut s = Shortening {
         alloc,
-        run: RacingRun {
-            threads: trail.threads,
-            kept: vec![in alloc; true; moves.len()]?,
-            moves,
-        },
+        run: all_kept(alloc, trail)?,
         way: Way {
             stands: Vec::new(alloc),
             idle: Vec::new(alloc),
         },
     };
-    for _ in 0..s.run.moves.len() {
-        if !leave_any(&mut s, program, frees)? {
-            break;
-        }
+    match leave_all(&mut s, program, frees) {
+        Ok(()) => kept_moves(alloc, s.run),
+        Err(fault) => Err(fault),
     }
-    kept_moves(alloc, s.run)
 }

@@ -9,9 +9,8 @@ use crate::outlook::Outlook;
 use crate::plan::Plan;
 use crate::program::Program;
 use crate::random::Random;
-use crate::running::Running;
+use crate::running::{Running, retired_in};
 use crate::trail::Trail;
-use plc_auto::Event;
 use plc_base::{Items, NoMemory, OpId};
 use plc_flow::{Point, Step};
 use plc_lang::{Prim, Var, assigned, count_parameters, has_new};
@@ -46,7 +45,7 @@ pub struct Walker<'a> {
     random: &'a mut Random,
     plan: Plan,
     order: Order,
-    moves: Vec<Move>,
+    moves: Items<Move>,
 }
 
 /// Whether a point is the exit of its operation.
@@ -66,7 +65,7 @@ impl<'a> Walker<'a> {
             random,
             plan,
             order,
-            moves: Vec::new(alloc),
+            moves: Items::new(alloc),
         })
     }
 
@@ -81,13 +80,8 @@ impl<'a> Walker<'a> {
     pub fn into_trail(self) -> Trail {
         Trail {
             threads: self.plan.threads(),
-            moves: Items::from_vec(self.moves),
+            moves: self.moves,
         }
-    }
-
-    /// How many moves were made.
-    pub fn count(&self) -> u64 {
-        self.moves.len() as u64
     }
 
     /// Moves, from where runs begin, until the run races or ends.
@@ -96,13 +90,25 @@ impl<'a> Walker<'a> {
         requires of_run { IsRunOf program.now run.old.config }
     {
         for _ in 0..LONGEST {
-            match self.go(program, run)? {
-                Turn::Went | Turn::Passed | Turn::Waits => {}
-                Turn::Raced => return Ok(true),
-                Turn::Stuck => return Ok(false),
+            match self.go(program, run) {
+                Ok(Turn::Went | Turn::Passed | Turn::Waits) => {}
+                Ok(Turn::Raced) => return Ok(true),
+                Ok(Turn::Stuck) => return Ok(false),
+                Err(fault) => return Err(fault),
             }
         }
         Ok(false)
+    }
+
+    /// Changes the order after the turn of the thread at a place of it.
+    fn went(&mut self, k: usize, turn: Turn) -> Result<Turn, NoMemory> {
+        match turn {
+            Turn::Went => self.order.moved(k, self.random)?,
+            Turn::Waits => self.order.give_way(k, self.random)?,
+            Turn::Passed => self.order.passed(k, self.random)?,
+            Turn::Raced | Turn::Stuck => {}
+        }
+        Ok(turn)
     }
 
     /// Lets the first thread move that can.
@@ -113,21 +119,10 @@ impl<'a> Walker<'a> {
     {
         for k in 0..self.order.len() {
             let t = self.order.at(k);
-            match self.turn(program, run, t)? {
-                Turn::Went => {
-                    self.order.moved(k, self.random)?;
-                    return Ok(Turn::Went);
-                }
-                Turn::Waits => {
-                    self.order.give_way(k, self.random)?;
-                    return Ok(Turn::Waits);
-                }
-                Turn::Passed => {
-                    self.order.passed(k, self.random)?;
-                    return Ok(Turn::Passed);
-                }
-                Turn::Raced => return Ok(Turn::Raced),
-                Turn::Stuck => {}
+            match self.turn(program, run, t) {
+                Ok(Turn::Stuck) => {}
+                Ok(turn) => return self.went(k, turn),
+                Err(fault) => return Err(fault),
             }
         }
         Ok(Turn::Stuck)
@@ -191,9 +186,9 @@ impl<'a> Walker<'a> {
             if count > 1 && !looks_open(program, &run.config, t, step) {
                 continue;
             }
-            let turn = self.take(program, run, t, nth, step)?;
-            if turn != Turn::Stuck {
-                return Ok(turn);
+            match self.take(program, run, t, nth, step) {
+                Ok(Turn::Stuck) => {}
+                taken => return taken,
             }
         }
         Ok(Turn::Stuck)
@@ -214,18 +209,30 @@ impl<'a> Walker<'a> {
         if writes(step.prims.as_slice()) && self.order.waits(self.random) {
             return Ok(Turn::Waits);
         }
-        if !has_new(step.prims.as_slice()) {
-            let turn = self.make(program, run, Move::Step { t, nth, addr: None })?;
-            let passed = turn == Turn::Went && step.prims.is_empty();
-            return Ok(if passed { Turn::Passed } else { turn });
+        let addr = self.address(step);
+        match self.make(program, run, Move::Step { t, nth, addr }) {
+            Ok(Turn::Went) => Ok(self.took(addr, step)),
+            turn => turn,
         }
-        let a = self.plan.address(self.random);
-        let addr = Some(a);
-        let turn = self.make(program, run, Move::Step { t, nth, addr })?;
-        if turn == Turn::Went {
-            self.plan.used(a);
+    }
+
+    /// The address that is drawn for a step, if it makes a node.
+    fn address(&mut self, step: &Step) -> Option<u32> {
+        if has_new(step.prims.as_slice()) {
+            Some(self.plan.address(self.random))
+        } else {
+            None
         }
-        Ok(turn)
+    }
+
+    /// Notes that a step was taken with an address. One that does nothing is seen by no other thread.
+    fn took(&mut self, addr: Option<u32>, step: &Step) -> Turn {
+        match addr {
+            Some(a) => self.plan.used(a),
+            None if step.prims.is_empty() => return Turn::Passed,
+            None => {}
+        }
+        Turn::Went
     }
 
     /// Makes a move, if there is one, and frees what may be freed after it.
@@ -234,31 +241,51 @@ impl<'a> Walker<'a> {
         ensures { IsRunOf program.now run.new.config }
     {
         let before = run.config.history().len();
-        match run.make(program, &m)? {
-            Moved::Done => {
-                self.moves.push(m)?;
-                self.note_retired(&run.config, before)?;
-                self.free(program, run)?;
-                Ok(Turn::Went)
-            }
-            Moved::Race { .. } => {
-                self.moves.push(m)?;
-                Ok(Turn::Raced)
-            }
-            Moved::Blocked | Moved::Forbidden { .. } => Ok(Turn::Stuck),
+        match run.make(program, &m) {
+            Ok(Moved::Done) => self.made(program, run, m, before),
+            Ok(Moved::Race { .. }) => self.raced(m),
+            Ok(Moved::Blocked | Moved::Forbidden { .. }) => Ok(Turn::Stuck),
+            Err(fault) => Err(fault),
         }
+    }
+
+    /// Keeps a move that was made after so many events, and frees what may be freed after it.
+    fn made(
+        &mut self,
+        program: &Program,
+        run: &mut Running,
+        m: Move,
+        before: usize,
+    ) -> Result<Turn, NoMemory>
+        requires { IsRunOf program.now run.old.config }
+        ensures { IsRunOf program.now run.new.config }
+    {
+        self.moves.push(m)?;
+        self.note_retired(&run.config, before)?;
+        self.free(program, run)?;
+        Ok(Turn::Went)
+    }
+
+    /// Keeps a move that is a race.
+    fn raced(&mut self, m: Move) -> Result<Turn, NoMemory> {
+        self.moves.push(m)?;
+        Ok(Turn::Raced)
     }
 
     /// Notes what the events after so many retire.
     fn note_retired(&mut self, config: &Config, before: usize) -> Result<(), NoMemory> {
         for event in config.history().iter().skip(before) {
-            if let Event::Call { f, a: Some(a), .. } = event {
-                if f.is_retire() {
-                    self.plan.retire(*a)?;
-                }
+            if let Some(a) = retired_in(event) {
+                self.plan.retire(a)?;
             }
         }
         Ok(())
+    }
+
+    /// Keeps the free of an address.
+    fn freed(&mut self, a: u32) -> Result<(), NoMemory> {
+        self.moves.push(Move::Free { a })?;
+        self.plan.free(a)
     }
 
     /// Frees what may be freed.
@@ -273,12 +300,11 @@ impl<'a> Walker<'a> {
             let Some(a) = run.frees.next(self.plan.retired(), self.random) else {
                 return Ok(());
             };
-            let m = Move::Free { a };
-            if run.make(program, &m)? != Moved::Done {
-                return Ok(());
+            match run.free(program, a) {
+                Ok(Moved::Done) => self.freed(a)?,
+                Ok(_) => return Ok(()),
+                Err(fault) => return Err(fault),
             }
-            self.moves.push(m)?;
-            self.plan.free(a)?;
         }
         Ok(())
     }

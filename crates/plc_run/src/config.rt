@@ -3,7 +3,10 @@
 // also for what the observer hears of the step, they are taken back, and the configuration is as it was. The other
 // moves ask for their memory before they change anything.
 ghost use Rattle.std.specs.Prelude.{◌≡◌, ◌<◌, [], IfOk, OnOk, OnErr};
+ghost use Rattle.std.specs.Prelude.{None, replicate};
+ghost use Rattle.plc_auto.specs.Locations.{of_threads, locations_after_all};
 ghost use Rattle.plc_flow.specs.WellFormed.{FlowFits};
+ghost use Rattle.plc_flow.specs.StepsByPoint.{IsIndexOf, first_points};
 ghost use Rattle.plc_mem.specs.Outcomes.{address_or_null};
 ghost use Rattle.plc_mem.specs.Fit.{Kept};
 ghost use Rattle.plc_run.specs.Run.{point_of};
@@ -31,6 +34,39 @@ fn came_about(ended: &Result<Ended, NoMemory>) -> bool
     ensures { result ≡ came_about ended.now }
 {
     matches!(ended, Ok(Ended::Fine))
+}
+
+/// What a configuration in which every thread is idle has besides memory and history: where threads and observer stand,
+/// and the index by which the steps of a point are found.
+#[derive(Drop)]
+struct Idle {
+    points: Vec<Option<Point>>,
+    located: Locations,
+    steps: StepsByPoint,
+}
+
+/// What a configuration with this history has in which every thread is idle.
+fn idle_after(
+    alloc: Global,
+    flow: &Flow,
+    observer: &Observer,
+    threads: u32,
+    history: &[Event],
+) -> Result<Idle, NoMemory>
+    requires { FlowFits flow.now }
+    ensures points { IfOk result (λ idle. idle.points.items ≡ replicate threads None) }
+    ensures located { IfOk result (λ idle. idle.located ≡ locations_after_all (of_threads observer.now threads) history.now) }
+    ensures indexed { IfOk result (λ idle. IsIndexOf (first_points flow.now) idle.steps) }
+{
+    let points = none_held(alloc, threads as usize)?;
+    let mut located = Locations::of_threads(alloc, *observer, threads)?;
+    located.hear_all(history)?;
+    let steps = StepsByPoint::of_flow(alloc, flow)?;
+    Ok(Idle {
+        points,
+        located,
+        steps,
+    })
 }
 
 /// The configuration of a run: memory, history, where the observer stands for each thread and each
@@ -102,18 +138,15 @@ impl Config {
         requires fits { FlowFits flow.now }
         ensures { IfOk result (λ c. IsIdle flow.now observer.now threads memory history.items c) }
     {
-        let points = none_held(alloc, threads as usize)?;
-        let mut located = Locations::of_threads(alloc, *observer, threads)?;
-        located.hear_all(&history)?;
-        let steps = StepsByPoint::of_flow(alloc, flow)?;
+        let idle = idle_after(alloc, flow, observer, threads, &history)?;
         Ok(Config {
             alloc,
             memory,
-            located,
+            located: idle.located,
             history,
-            points,
+            points: idle.points,
             ended: false,
-            steps,
+            steps: idle.steps,
         })
     }
 

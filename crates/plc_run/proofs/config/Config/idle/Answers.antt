@@ -7,11 +7,11 @@ use Rattle.plc_run.proofs.config.Config.idle.Goals as goal
 pub returns : goal.returns
 returns c =
     let o = c.args.observer.now in
-    let many = ap length c.in_ok-points.ensures ∙ length-replicate {A = Option Point} c.args.threads None in
+    let many = ap length c.in_ok-idle.ensures.points ∙ length-replicate {A = Option Point} c.args.threads None in
     record {
-      here = λ i. record { state = c.args.memory; history = c.args.history.items; points = c.in_ok-points.ensures i };
+      here = λ i. record { state = c.args.memory; history = c.args.history.items; points = c.in_ok-idle.ensures.points i };
       live = refl;
-      follows = c.in_ok-hear_all.ensures.ok ∙ ap (λ l. locations_after_all l c.deref.result.now) c.in_ok-located.ensures
+      follows = c.in_ok-idle.ensures.located
           ∙ (λ i. locations_after_all (of_threads o (sym many i)) (c.deref.ensures.value i));
-      indexed = c.in_ok-steps.ensures;
+      indexed = c.in_ok-idle.ensures.indexed;
     }
