@@ -9,7 +9,7 @@ use crate::form::{Bound, Flag, Literal, Term};
 use crate::front::{Read, first, name_and_at, name_at, number_at, stuck, symbol_at, word_at};
 use crate::rest::Rest;
 use crate::statement::{place_at, place_of_name_at};
-use crate::within;
+use crate::{in_turn, within};
 use plc_lex::{Keyword, Symbol, TokenKind};
 
 /// A side of an equation.
@@ -42,16 +42,20 @@ fn equality_at<'a>(rest: Rest<'a>) -> Read<'a, bool>
 fn retired_at<'a>(rest: Rest<'a>) -> Read<'a, Flag<'a>>
     ensures { Gives flag_tree result (retired_of rest.entry.at (kinds rest.entry.tokens.now)) }
 {
-    let after = symbol_at(rest, Symbol::OpenParen)?;
-    within!(Flag::Retired(name); name = name_and_at(after, Symbol::CloseParen))
+    in_turn!(
+        after = symbol_at(rest, Symbol::OpenParen);
+        within!(Flag::Retired(name); name = name_and_at(after, Symbol::CloseParen))
+    )
 }
 
 /// "marked" of a place, from after its word.
 fn marked_at<'a>(rest: Rest<'a>) -> Read<'a, Flag<'a>>
     ensures { Gives flag_tree result (marked_of rest.entry.at (kinds rest.entry.tokens.now)) }
 {
-    let after = symbol_at(rest, Symbol::OpenParen)?;
-    within!(Flag::Marked(place); place = place_at(after), CloseParen)
+    in_turn!(
+        after = symbol_at(rest, Symbol::OpenParen);
+        within!(Flag::Marked(place); place = place_at(after), CloseParen)
+    )
 }
 
 /// A flag.
@@ -69,9 +73,11 @@ fn flag_at<'a>(rest: Rest<'a>) -> Read<'a, Flag<'a>>
 fn equation_at<'a>(rest: Rest<'a>) -> Read<'a, Literal<'a>>
     ensures { Gives literal_tree result (equation_of rest.entry.at (kinds rest.entry.tokens.now)) }
 {
-    let (left, after) = term_at(rest)?;
-    let (is_equal, after) = equality_at(after)?;
-    within!(Literal::Equation(left, is_equal, right); right = term_at(after))
+    in_turn!(
+        (left, after) = term_at(rest);
+        (is_equal, after) = equality_at(after);
+        within!(Literal::Equation(left, is_equal, right); right = term_at(after))
+    )
 }
 
 /// A literal.
@@ -93,7 +99,7 @@ pub fn literal_at<'a>(rest: Rest<'a>) -> Read<'a, Literal<'a>>
 pub fn or_literal_at<'a>(rest: Rest<'a>) -> Read<'a, Literal<'a>>
     ensures { Gives literal_tree result (or_literal_of rest.entry.at (kinds rest.entry.tokens.now)) }
 {
-    literal_at(word_at(rest, Keyword::Or)?)
+    in_turn!(after = word_at(rest, Keyword::Or); literal_at(after))
 }
 
 /// A second quantified name, which may be left out.
@@ -111,8 +117,10 @@ fn second_at<'a>(rest: Rest<'a>) -> Read<'a, Option<&'a [u8]>>
 fn all_at<'a>(rest: Rest<'a>) -> Read<'a, Bound<'a>>
     ensures { Gives bound_tree result (all_of rest.entry.at (kinds rest.entry.tokens.now)) }
 {
-    let (name, after) = name_at(rest)?;
-    within!(Bound::All(name, second); second = second_at(after), Colon)
+    in_turn!(
+        (name, after) = name_at(rest);
+        within!(Bound::All(name, second); second = second_at(after), Colon)
+    )
 }
 
 /// The quantified names of a clause, which may be left out.

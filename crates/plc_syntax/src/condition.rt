@@ -9,7 +9,7 @@ use crate::form::{Cas, Condition, Relation, Test};
 use crate::front::{Read, first, name_and_at, name_at, stuck, symbol_at, word_if_at};
 use crate::rest::Rest;
 use crate::statement::{atom_at, place_at};
-use crate::within;
+use crate::{in_turn, within};
 use plc_lex::{Keyword, Symbol, TokenKind};
 
 /// What stands between the sides of a test.
@@ -29,8 +29,10 @@ fn relation_at<'a>(rest: Rest<'a>) -> Read<'a, Relation>
 fn compared_at<'a>(name: &'a [u8], rest: Rest<'a>) -> Read<'a, Test<'a>>
     ensures { Gives test_tree result (compared_of name.now rest.entry.at (kinds rest.entry.tokens.now)) }
 {
-    let (relation, after) = relation_at(rest)?;
-    within!(Test::Compares { name, relation, atom }; atom = atom_at(after))
+    in_turn!(
+        (relation, after) = relation_at(rest);
+        within!(Test::Compares { name, relation, atom }; atom = atom_at(after))
+    )
 }
 
 /// A test.
@@ -62,19 +64,23 @@ fn name_or_null_at<'a>(rest: Rest<'a>) -> Read<'a, Option<&'a [u8]>>
 fn cas_at<'a>(is_active: bool, rest: Rest<'a>) -> Read<'a, Cas<'a>>
     ensures { Gives cas_tree result (cas_of is_active rest.entry.at (kinds rest.entry.tokens.now)) }
 {
-    let (name, after) = name_and_at(rest, Symbol::Comma)?;
-    let (old, after) = name_or_null_at(after)?;
-    let after = symbol_at(after, Symbol::Comma)?;
-    within!(Cas { is_active, name, old, new }; new = name_or_null_at(after), CloseParen)
+    in_turn!(
+        (name, after) = name_and_at(rest, Symbol::Comma);
+        (old, after) = name_or_null_at(after);
+        after = symbol_at(after, Symbol::Comma);
+        within!(Cas { is_active, name, old, new }; new = name_or_null_at(after), CloseParen)
+    )
 }
 
 /// A cas, from after its word.
 fn cas_condition_at<'a>(rest: Rest<'a>) -> Read<'a, Condition<'a>>
     ensures { Gives condition_tree result (cas_condition_of rest.entry.at (kinds rest.entry.tokens.now)) }
 {
-    let after = symbol_at(rest, Symbol::OpenParen)?;
-    let (is_active, after) = word_if_at(after, Keyword::Active)?;
-    within!(Condition::Cas(cas); cas = cas_at(is_active, after))
+    in_turn!(
+        after = symbol_at(rest, Symbol::OpenParen);
+        (is_active, after) = word_if_at(after, Keyword::Active);
+        within!(Condition::Cas(cas); cas = cas_at(is_active, after))
+    )
 }
 
 /// A condition, from after its name.

@@ -11,7 +11,7 @@ use crate::form::{Declaration, Function, Initial, Set, Shared, Watch};
 use crate::front::{Read, first, name_and_at, stuck, symbol_at, word_at, word_if_at};
 use crate::rest::Rest;
 use crate::statement::{atom_at, ghost_set_at, value_at};
-use crate::within;
+use crate::{in_turn, within};
 use plc_lex::{Keyword, Symbol, TokenKind};
 
 /// A field of the struct or a local.
@@ -31,19 +31,23 @@ pub fn field_at<'a>(rest: Rest<'a>) -> Read<'a, Declaration<'a>>
 pub fn shared_at<'a>(rest: Rest<'a>) -> Read<'a, Shared<'a>>
     ensures { Gives shared_name result (shared_of rest.entry.at (kinds rest.entry.tokens.now)) }
 {
-    let after = word_at(rest, Keyword::Shared)?;
-    within!(Shared { name }; name = name_and_at(after, Symbol::Semicolon))
+    in_turn!(
+        after = word_at(rest, Keyword::Shared);
+        within!(Shared { name }; name = name_and_at(after, Symbol::Semicolon))
+    )
 }
 
 /// A function of the reclaimer.
 pub fn function_at<'a>(rest: Rest<'a>) -> Read<'a, Function<'a>>
     ensures { Gives function_tree result (function_of rest.entry.at (kinds rest.entry.tokens.now)) }
 {
-    let after = word_at(rest, Keyword::Call)?;
-    let (name, after) = name_and_at(after, Symbol::OpenParen)?;
-    within!(
-        Function { name, takes_pointer };
-        takes_pointer = word_if_at(after, Keyword::Ptr), CloseParen, Semicolon
+    in_turn!(
+        after = word_at(rest, Keyword::Call);
+        (name, after) = name_and_at(after, Symbol::OpenParen);
+        within!(
+            Function { name, takes_pointer };
+            takes_pointer = word_if_at(after, Keyword::Ptr), CloseParen, Semicolon
+        )
     )
 }
 
@@ -51,17 +55,21 @@ pub fn function_at<'a>(rest: Rest<'a>) -> Read<'a, Function<'a>>
 fn hazard_at<'a>(rest: Rest<'a>) -> Read<'a, Watch<'a>>
     ensures { Gives watch_tree result (hazard_of rest.entry.at (kinds rest.entry.tokens.now)) }
 {
-    let after = symbol_at(rest, Symbol::OpenParen)?;
-    within!(Watch::Hazard(function); function = name_and_at(after, Symbol::CloseParen), Semicolon)
+    in_turn!(
+        after = symbol_at(rest, Symbol::OpenParen);
+        within!(Watch::Hazard(function); function = name_and_at(after, Symbol::CloseParen), Semicolon)
+    )
 }
 
 /// The two functions of epochs, from after the word.
 fn epoch_at<'a>(rest: Rest<'a>) -> Read<'a, Watch<'a>>
     ensures { Gives watch_tree result (epoch_of rest.entry.at (kinds rest.entry.tokens.now)) }
 {
-    let after = symbol_at(rest, Symbol::OpenParen)?;
-    let (enter, after) = name_and_at(after, Symbol::Comma)?;
-    within!(Watch::Epoch(enter, leave); leave = name_and_at(after, Symbol::CloseParen), Semicolon)
+    in_turn!(
+        after = symbol_at(rest, Symbol::OpenParen);
+        (enter, after) = name_and_at(after, Symbol::Comma);
+        within!(Watch::Epoch(enter, leave); leave = name_and_at(after, Symbol::CloseParen), Semicolon)
+    )
 }
 
 /// What is watched, from after "use".
@@ -90,8 +98,10 @@ pub fn watch_at<'a>(rest: Rest<'a>) -> Read<'a, Option<Watch<'a>>>
 fn set_field_at<'a>(name: &'a [u8], rest: Rest<'a>) -> Read<'a, Set<'a>>
     ensures { Gives set_tree result (set_field_of name.now rest.entry.at (kinds rest.entry.tokens.now)) }
 {
-    let (field, after) = name_and_at(rest, Symbol::Assign)?;
-    within!(Set::Field(name, field, atom); atom = atom_at(after))
+    in_turn!(
+        (field, after) = name_and_at(rest, Symbol::Assign);
+        within!(Set::Field(name, field, atom); atom = atom_at(after))
+    )
 }
 
 /// An assignment, from after its first name.

@@ -12,7 +12,7 @@ use crate::condition::test_at;
 use crate::form::{Argument, Atom, GhostSet, GhostValue, Place, Primitive, Refresh, Set, Value};
 use crate::front::{Read, first, name_and_at, name_at, stuck};
 use crate::rest::Rest;
-use crate::within;
+use crate::{in_turn, within};
 use plc_lex::{Keyword, Symbol, TokenKind};
 
 /// A place, from after its name.
@@ -30,8 +30,10 @@ pub fn place_of_name_at<'a>(name: &'a [u8], rest: Rest<'a>) -> Read<'a, Place<'a
 pub fn place_at<'a>(rest: Rest<'a>) -> Read<'a, Place<'a>>
     ensures { Gives place_tree result (place_of rest.entry.at (kinds rest.entry.tokens.now)) }
 {
-    let (name, after) = name_at(rest)?;
-    place_of_name_at(name, after)
+    in_turn!(
+        (name, after) = name_at(rest);
+        place_of_name_at(name, after)
+    )
 }
 
 /// What is put into a name.
@@ -80,14 +82,16 @@ fn ghost_value_at<'a>(rest: Rest<'a>) -> Read<'a, GhostValue<'a>>
 fn field_tail_at<'a>(name: &'a [u8], rest: Rest<'a>) -> Read<'a, Primitive<'a>>
     ensures { Gives primitive_tree result (field_tail_of name.now rest.entry.at (kinds rest.entry.tokens.now)) }
 {
-    let (field, rest) = name_at(rest)?;
-    match first(rest) {
-        Some((TokenKind::Symbol(Symbol::Assign), after)) =>
-            within!(Primitive::Set(Set::Field(name, field, atom)); atom = atom_at(after)),
-        Some((TokenKind::Symbol(Symbol::Refresh), after)) =>
-            within!(Primitive::Refresh(Refresh::Field(name, field, from)); from = name_at(after)),
-        _ => Err(stuck(rest)),
-    }
+    in_turn!(
+        (field, rest) = name_at(rest);
+        match first(rest) {
+            Some((TokenKind::Symbol(Symbol::Assign), after)) =>
+                within!(Primitive::Set(Set::Field(name, field, atom)); atom = atom_at(after)),
+            Some((TokenKind::Symbol(Symbol::Refresh), after)) =>
+                within!(Primitive::Refresh(Refresh::Field(name, field, from)); from = name_at(after)),
+            _ => Err(stuck(rest)),
+        }
+    )
 }
 
 /// What follows a name on the left.
@@ -108,9 +112,11 @@ pub fn named_tail_at<'a>(name: &'a [u8], rest: Rest<'a>) -> Read<'a, Primitive<'
 pub fn ghost_set_at<'a>(rest: Rest<'a>) -> Read<'a, GhostSet<'a>>
     ensures { Gives ghost_set_tree result (ghost_set_of rest.entry.at (kinds rest.entry.tokens.now)) }
 {
-    let (name, after) = name_and_at(rest, Symbol::Dot)?;
-    let (field, after) = name_and_at(after, Symbol::Assign)?;
-    within!(GhostSet { name, field, value }; value = ghost_value_at(after))
+    in_turn!(
+        (name, after) = name_and_at(rest, Symbol::Dot);
+        (field, after) = name_and_at(after, Symbol::Assign);
+        within!(GhostSet { name, field, value }; value = ghost_value_at(after))
+    )
 }
 
 /// A primitive, without its semicolon.
