@@ -6,21 +6,21 @@ ghost use Rattle.plc_syntax.specs.Forms.{cas_condition_of, named_condition_of, c
 ghost use Rattle.plc_syntax.specs.Answers.{Gives};
 
 use crate::form::{Cas, Condition, Relation, Test};
-use crate::front::{Read, first, name_and_at, name_at, stuck, symbol_at, word_if_at};
+use crate::front::{Front, Read, at_front, name_and_at, name_at, stuck, symbol_at, word_if_at};
 use crate::rest::Rest;
 use crate::statement::{atom_at, place_at};
 use crate::{in_turn, within};
-use plc_lex::{Keyword, Symbol, TokenKind};
+use plc_lex::{Keyword, Symbol};
 
 /// What stands between the sides of a test.
 fn relation_at<'a>(rest: Rest<'a>) -> Read<'a, Relation>
     ensures { Gives relation_tree result (comparison_of rest.entry.at (kinds rest.entry.tokens.now)) }
 {
-    match first(rest) {
-        Some((TokenKind::Symbol(Symbol::Equal), after)) => Ok((Relation::Same, after)),
-        Some((TokenKind::Symbol(Symbol::Unequal), after)) => Ok((Relation::Other, after)),
-        Some((TokenKind::Symbol(Symbol::Less), after)) => Ok((Relation::Less, after)),
-        Some((TokenKind::Symbol(Symbol::AtLeast), after)) => Ok((Relation::NotLess, after)),
+    match at_front(rest) {
+        (Front::Symbol(Symbol::Equal), after) => Ok((Relation::Same, after)),
+        (Front::Symbol(Symbol::Unequal), after) => Ok((Relation::Other, after)),
+        (Front::Symbol(Symbol::Less), after) => Ok((Relation::Less, after)),
+        (Front::Symbol(Symbol::AtLeast), after) => Ok((Relation::NotLess, after)),
         _ => Err(stuck(rest)),
     }
 }
@@ -39,11 +39,10 @@ fn compared_at<'a>(name: &'a [u8], rest: Rest<'a>) -> Read<'a, Test<'a>>
 pub fn test_at<'a>(rest: Rest<'a>) -> Read<'a, Test<'a>>
     ensures { Gives test_tree result (test_of rest.entry.at (kinds rest.entry.tokens.now)) }
 {
-    match first(rest) {
-        Some((TokenKind::Name(name), after)) => compared_at(name.as_slice(), after),
-        Some((TokenKind::Word(Keyword::Marked), after)) =>
-            within!(Test::Marked(name); name = name_at(after)),
-        Some((TokenKind::Word(Keyword::Unmarked), after)) =>
+    match at_front(rest) {
+        (Front::Name(name), after) => compared_at(name, after),
+        (Front::Word(Keyword::Marked), after) => within!(Test::Marked(name); name = name_at(after)),
+        (Front::Word(Keyword::Unmarked), after) =>
             within!(Test::Unmarked(name); name = name_at(after)),
         _ => Err(stuck(rest)),
     }
@@ -53,9 +52,9 @@ pub fn test_at<'a>(rest: Rest<'a>) -> Read<'a, Test<'a>>
 fn name_or_null_at<'a>(rest: Rest<'a>) -> Read<'a, Option<&'a [u8]>>
     ensures { Gives text_or_none result (name_or_null_of rest.entry.at (kinds rest.entry.tokens.now)) }
 {
-    match first(rest) {
-        Some((TokenKind::Name(name), after)) => Ok((Some(name.as_slice()), after)),
-        Some((TokenKind::Word(Keyword::Null), after)) => Ok((None, after)),
+    match at_front(rest) {
+        (Front::Name(name), after) => Ok((Some(name), after)),
+        (Front::Word(Keyword::Null), after) => Ok((None, after)),
         _ => Err(stuck(rest)),
     }
 }
@@ -87,8 +86,8 @@ fn cas_condition_at<'a>(rest: Rest<'a>) -> Read<'a, Condition<'a>>
 fn named_condition_at<'a>(name: &'a [u8], rest: Rest<'a>) -> Read<'a, Condition<'a>>
     ensures { Gives condition_tree result (named_condition_of name.now rest.entry.at (kinds rest.entry.tokens.now)) }
 {
-    match first(rest) {
-        Some((TokenKind::Symbol(Symbol::Refresh), after)) =>
+    match at_front(rest) {
+        (Front::Symbol(Symbol::Refresh), after) =>
             within!(Condition::Refresh(name, place); place = place_at(after)),
         _ => within!(Condition::Test(test); test = compared_at(name, rest)),
     }
@@ -98,9 +97,9 @@ fn named_condition_at<'a>(name: &'a [u8], rest: Rest<'a>) -> Read<'a, Condition<
 pub fn condition_at<'a>(rest: Rest<'a>) -> Read<'a, Condition<'a>>
     ensures { Gives condition_tree result (condition_of rest.entry.at (kinds rest.entry.tokens.now)) }
 {
-    match first(rest) {
-        Some((TokenKind::Word(Keyword::Cas), after)) => cas_condition_at(after),
-        Some((TokenKind::Name(name), after)) => named_condition_at(name.as_slice(), after),
+    match at_front(rest) {
+        (Front::Word(Keyword::Cas), after) => cas_condition_at(after),
+        (Front::Name(name), after) => named_condition_at(name, after),
         _ => within!(Condition::Test(test); test = test_at(rest)),
     }
 }
