@@ -16,7 +16,7 @@ use plc_lex::{Keyword, Symbol, TokenKind};
 pub type Read<'a, X> = Result<(X, Rest<'a>), Fault>;
 
 /// Readers one after another, and what is answered with what they read. Where one refuses, its fault is the answer.
-/// It is a match on each and no `?`, whose compiled code is longer by a third, and its proof with it.
+/// It is a match on each and no `?`, whose compiled code is longer, and so its proof.
 #[macro_export]
 macro_rules! in_turn {
     ($answer:expr) => { $answer };
