@@ -3,6 +3,7 @@ pub mod Answers
 pub mod Depth
 pub mod Faults
 pub mod Forms
+pub mod Fronts
 pub mod Marks
 pub mod Nesting
 pub mod Sizes

@@ -6,23 +6,25 @@ ghost use Rattle.plc_syntax.specs.Forms.{or_literal_of, second_of, all_of, bound
 ghost use Rattle.plc_syntax.specs.Answers.{Gives};
 
 use crate::form::{Bound, Flag, Literal, Term};
-use crate::front::{Read, first, name_and_at, name_at, number_at, stuck, symbol_at, word_at};
+use crate::front::{
+    Front, Read, at_front, name_and_at, name_at, number_at, stuck, symbol_at, word_at,
+};
 use crate::rest::Rest;
 use crate::statement::{place_at, place_of_name_at};
-use crate::within;
-use plc_lex::{Keyword, Symbol, TokenKind};
+use crate::{in_turn, within};
+use plc_lex::{Keyword, Symbol};
 
 /// A side of an equation.
 fn term_at<'a>(rest: Rest<'a>) -> Read<'a, Term<'a>>
     ensures { Gives term_tree result (term_of rest.entry.at (kinds rest.entry.tokens.now)) }
 {
-    match first(rest) {
-        Some((TokenKind::Word(Keyword::Null), after)) => Ok((Term::Null, after)),
-        Some((TokenKind::Number(n), after)) => Ok((Term::Number(*n), after)),
-        Some((TokenKind::Word(Keyword::Me), after)) => Ok((Term::Me, after)),
-        Some((TokenKind::Word(Keyword::None), after)) => Ok((Term::None, after)),
-        Some((TokenKind::Name(name), after)) =>
-            within!(Term::Place(place); place = place_of_name_at(name.as_slice(), after)),
+    match at_front(rest) {
+        (Front::Word(Keyword::Null), after) => Ok((Term::Null, after)),
+        (Front::Number(n), after) => Ok((Term::Number(n), after)),
+        (Front::Word(Keyword::Me), after) => Ok((Term::Me, after)),
+        (Front::Word(Keyword::None), after) => Ok((Term::None, after)),
+        (Front::Name(name), after) =>
+            within!(Term::Place(place); place = place_of_name_at(name, after)),
         _ => Err(stuck(rest)),
     }
 }
@@ -31,9 +33,9 @@ fn term_at<'a>(rest: Rest<'a>) -> Read<'a, Term<'a>>
 fn equality_at<'a>(rest: Rest<'a>) -> Read<'a, bool>
     ensures { Gives (λ b. b) result (equality_of rest.entry.at (kinds rest.entry.tokens.now)) }
 {
-    match first(rest) {
-        Some((TokenKind::Symbol(Symbol::Equal), after)) => Ok((true, after)),
-        Some((TokenKind::Symbol(Symbol::Unequal), after)) => Ok((false, after)),
+    match at_front(rest) {
+        (Front::Symbol(Symbol::Equal), after) => Ok((true, after)),
+        (Front::Symbol(Symbol::Unequal), after) => Ok((false, after)),
         _ => Err(stuck(rest)),
     }
 }
@@ -42,25 +44,29 @@ fn equality_at<'a>(rest: Rest<'a>) -> Read<'a, bool>
 fn retired_at<'a>(rest: Rest<'a>) -> Read<'a, Flag<'a>>
     ensures { Gives flag_tree result (retired_of rest.entry.at (kinds rest.entry.tokens.now)) }
 {
-    let after = symbol_at(rest, Symbol::OpenParen)?;
-    within!(Flag::Retired(name); name = name_and_at(after, Symbol::CloseParen))
+    in_turn!(
+        after = symbol_at(rest, Symbol::OpenParen);
+        within!(Flag::Retired(name); name = name_and_at(after, Symbol::CloseParen))
+    )
 }
 
 /// "marked" of a place, from after its word.
 fn marked_at<'a>(rest: Rest<'a>) -> Read<'a, Flag<'a>>
     ensures { Gives flag_tree result (marked_of rest.entry.at (kinds rest.entry.tokens.now)) }
 {
-    let after = symbol_at(rest, Symbol::OpenParen)?;
-    within!(Flag::Marked(place); place = place_at(after), CloseParen)
+    in_turn!(
+        after = symbol_at(rest, Symbol::OpenParen);
+        within!(Flag::Marked(place); place = place_at(after), CloseParen)
+    )
 }
 
 /// A flag.
 fn flag_at<'a>(rest: Rest<'a>) -> Read<'a, Flag<'a>>
     ensures { Gives flag_tree result (flag_of rest.entry.at (kinds rest.entry.tokens.now)) }
 {
-    match first(rest) {
-        Some((TokenKind::Word(Keyword::Retired), after)) => retired_at(after),
-        Some((TokenKind::Word(Keyword::Marked), after)) => marked_at(after),
+    match at_front(rest) {
+        (Front::Word(Keyword::Retired), after) => retired_at(after),
+        (Front::Word(Keyword::Marked), after) => marked_at(after),
         _ => Err(stuck(rest)),
     }
 }
@@ -69,21 +75,22 @@ fn flag_at<'a>(rest: Rest<'a>) -> Read<'a, Flag<'a>>
 fn equation_at<'a>(rest: Rest<'a>) -> Read<'a, Literal<'a>>
     ensures { Gives literal_tree result (equation_of rest.entry.at (kinds rest.entry.tokens.now)) }
 {
-    let (left, after) = term_at(rest)?;
-    let (is_equal, after) = equality_at(after)?;
-    within!(Literal::Equation(left, is_equal, right); right = term_at(after))
+    in_turn!(
+        (left, after) = term_at(rest);
+        (is_equal, after) = equality_at(after);
+        within!(Literal::Equation(left, is_equal, right); right = term_at(after))
+    )
 }
 
 /// A literal.
 pub fn literal_at<'a>(rest: Rest<'a>) -> Read<'a, Literal<'a>>
     ensures { Gives literal_tree result (literal_of rest.entry.at (kinds rest.entry.tokens.now)) }
 {
-    match first(rest) {
-        Some((TokenKind::Word(Keyword::Not), after)) =>
-            within!(Literal::Not(flag); flag = flag_at(after)),
-        Some((TokenKind::Word(Keyword::Retired), after)) =>
+    match at_front(rest) {
+        (Front::Word(Keyword::Not), after) => within!(Literal::Not(flag); flag = flag_at(after)),
+        (Front::Word(Keyword::Retired), after) =>
             within!(Literal::Flag(flag); flag = retired_at(after)),
-        Some((TokenKind::Word(Keyword::Marked), after)) =>
+        (Front::Word(Keyword::Marked), after) =>
             within!(Literal::Flag(flag); flag = marked_at(after)),
         _ => equation_at(rest),
     }
@@ -93,16 +100,15 @@ pub fn literal_at<'a>(rest: Rest<'a>) -> Read<'a, Literal<'a>>
 pub fn or_literal_at<'a>(rest: Rest<'a>) -> Read<'a, Literal<'a>>
     ensures { Gives literal_tree result (or_literal_of rest.entry.at (kinds rest.entry.tokens.now)) }
 {
-    literal_at(word_at(rest, Keyword::Or)?)
+    in_turn!(after = word_at(rest, Keyword::Or); literal_at(after))
 }
 
 /// A second quantified name, which may be left out.
 fn second_at<'a>(rest: Rest<'a>) -> Read<'a, Option<&'a [u8]>>
     ensures { Gives text_or_none result (second_of rest.entry.at (kinds rest.entry.tokens.now)) }
 {
-    match first(rest) {
-        Some((TokenKind::Symbol(Symbol::Comma), after)) =>
-            within!(Some(name); name = name_at(after)),
+    match at_front(rest) {
+        (Front::Symbol(Symbol::Comma), after) => within!(Some(name); name = name_at(after)),
         _ => Ok((None, rest)),
     }
 }
@@ -111,16 +117,18 @@ fn second_at<'a>(rest: Rest<'a>) -> Read<'a, Option<&'a [u8]>>
 fn all_at<'a>(rest: Rest<'a>) -> Read<'a, Bound<'a>>
     ensures { Gives bound_tree result (all_of rest.entry.at (kinds rest.entry.tokens.now)) }
 {
-    let (name, after) = name_at(rest)?;
-    within!(Bound::All(name, second); second = second_at(after), Colon)
+    in_turn!(
+        (name, after) = name_at(rest);
+        within!(Bound::All(name, second); second = second_at(after), Colon)
+    )
 }
 
 /// The quantified names of a clause, which may be left out.
 pub fn bound_at<'a>(rest: Rest<'a>) -> Read<'a, Bound<'a>>
     ensures { Gives bound_tree result (bound_of rest.entry.at (kinds rest.entry.tokens.now)) }
 {
-    match first(rest) {
-        Some((TokenKind::Word(Keyword::All), after)) => all_at(after),
+    match at_front(rest) {
+        (Front::Word(Keyword::All), after) => all_at(after),
         _ => Ok((Bound::None, rest)),
     }
 }
@@ -129,8 +137,8 @@ pub fn bound_at<'a>(rest: Rest<'a>) -> Read<'a, Bound<'a>>
 pub fn depth_at<'a>(rest: Rest<'a>) -> Read<'a, Option<u32>>
     ensures { Gives (λ d. d) result (depth_of rest.entry.at (kinds rest.entry.tokens.now)) }
 {
-    match first(rest) {
-        Some((TokenKind::Word(Keyword::Depth), after)) =>
+    match at_front(rest) {
+        (Front::Word(Keyword::Depth), after) =>
             within!(Some(depth); depth = number_at(after), Semicolon),
         _ => Ok((None, rest)),
     }

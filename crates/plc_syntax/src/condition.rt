@@ -6,21 +6,21 @@ ghost use Rattle.plc_syntax.specs.Forms.{cas_condition_of, named_condition_of, c
 ghost use Rattle.plc_syntax.specs.Answers.{Gives};
 
 use crate::form::{Cas, Condition, Relation, Test};
-use crate::front::{Read, first, name_and_at, name_at, stuck, symbol_at, word_if_at};
+use crate::front::{Front, Read, at_front, name_and_at, name_at, stuck, symbol_at, word_if_at};
 use crate::rest::Rest;
 use crate::statement::{atom_at, place_at};
-use crate::within;
-use plc_lex::{Keyword, Symbol, TokenKind};
+use crate::{in_turn, within};
+use plc_lex::{Keyword, Symbol};
 
 /// What stands between the sides of a test.
 fn relation_at<'a>(rest: Rest<'a>) -> Read<'a, Relation>
     ensures { Gives relation_tree result (comparison_of rest.entry.at (kinds rest.entry.tokens.now)) }
 {
-    match first(rest) {
-        Some((TokenKind::Symbol(Symbol::Equal), after)) => Ok((Relation::Same, after)),
-        Some((TokenKind::Symbol(Symbol::Unequal), after)) => Ok((Relation::Other, after)),
-        Some((TokenKind::Symbol(Symbol::Less), after)) => Ok((Relation::Less, after)),
-        Some((TokenKind::Symbol(Symbol::AtLeast), after)) => Ok((Relation::NotLess, after)),
+    match at_front(rest) {
+        (Front::Symbol(Symbol::Equal), after) => Ok((Relation::Same, after)),
+        (Front::Symbol(Symbol::Unequal), after) => Ok((Relation::Other, after)),
+        (Front::Symbol(Symbol::Less), after) => Ok((Relation::Less, after)),
+        (Front::Symbol(Symbol::AtLeast), after) => Ok((Relation::NotLess, after)),
         _ => Err(stuck(rest)),
     }
 }
@@ -29,19 +29,20 @@ fn relation_at<'a>(rest: Rest<'a>) -> Read<'a, Relation>
 fn compared_at<'a>(name: &'a [u8], rest: Rest<'a>) -> Read<'a, Test<'a>>
     ensures { Gives test_tree result (compared_of name.now rest.entry.at (kinds rest.entry.tokens.now)) }
 {
-    let (relation, after) = relation_at(rest)?;
-    within!(Test::Compares { name, relation, atom }; atom = atom_at(after))
+    in_turn!(
+        (relation, after) = relation_at(rest);
+        within!(Test::Compares { name, relation, atom }; atom = atom_at(after))
+    )
 }
 
 /// A test.
 pub fn test_at<'a>(rest: Rest<'a>) -> Read<'a, Test<'a>>
     ensures { Gives test_tree result (test_of rest.entry.at (kinds rest.entry.tokens.now)) }
 {
-    match first(rest) {
-        Some((TokenKind::Name(name), after)) => compared_at(name.as_slice(), after),
-        Some((TokenKind::Word(Keyword::Marked), after)) =>
-            within!(Test::Marked(name); name = name_at(after)),
-        Some((TokenKind::Word(Keyword::Unmarked), after)) =>
+    match at_front(rest) {
+        (Front::Name(name), after) => compared_at(name, after),
+        (Front::Word(Keyword::Marked), after) => within!(Test::Marked(name); name = name_at(after)),
+        (Front::Word(Keyword::Unmarked), after) =>
             within!(Test::Unmarked(name); name = name_at(after)),
         _ => Err(stuck(rest)),
     }
@@ -51,9 +52,9 @@ pub fn test_at<'a>(rest: Rest<'a>) -> Read<'a, Test<'a>>
 fn name_or_null_at<'a>(rest: Rest<'a>) -> Read<'a, Option<&'a [u8]>>
     ensures { Gives text_or_none result (name_or_null_of rest.entry.at (kinds rest.entry.tokens.now)) }
 {
-    match first(rest) {
-        Some((TokenKind::Name(name), after)) => Ok((Some(name.as_slice()), after)),
-        Some((TokenKind::Word(Keyword::Null), after)) => Ok((None, after)),
+    match at_front(rest) {
+        (Front::Name(name), after) => Ok((Some(name), after)),
+        (Front::Word(Keyword::Null), after) => Ok((None, after)),
         _ => Err(stuck(rest)),
     }
 }
@@ -62,27 +63,31 @@ fn name_or_null_at<'a>(rest: Rest<'a>) -> Read<'a, Option<&'a [u8]>>
 fn cas_at<'a>(is_active: bool, rest: Rest<'a>) -> Read<'a, Cas<'a>>
     ensures { Gives cas_tree result (cas_of is_active rest.entry.at (kinds rest.entry.tokens.now)) }
 {
-    let (name, after) = name_and_at(rest, Symbol::Comma)?;
-    let (old, after) = name_or_null_at(after)?;
-    let after = symbol_at(after, Symbol::Comma)?;
-    within!(Cas { is_active, name, old, new }; new = name_or_null_at(after), CloseParen)
+    in_turn!(
+        (name, after) = name_and_at(rest, Symbol::Comma);
+        (old, after) = name_or_null_at(after);
+        after = symbol_at(after, Symbol::Comma);
+        within!(Cas { is_active, name, old, new }; new = name_or_null_at(after), CloseParen)
+    )
 }
 
 /// A cas, from after its word.
 fn cas_condition_at<'a>(rest: Rest<'a>) -> Read<'a, Condition<'a>>
     ensures { Gives condition_tree result (cas_condition_of rest.entry.at (kinds rest.entry.tokens.now)) }
 {
-    let after = symbol_at(rest, Symbol::OpenParen)?;
-    let (is_active, after) = word_if_at(after, Keyword::Active)?;
-    within!(Condition::Cas(cas); cas = cas_at(is_active, after))
+    in_turn!(
+        after = symbol_at(rest, Symbol::OpenParen);
+        (is_active, after) = word_if_at(after, Keyword::Active);
+        within!(Condition::Cas(cas); cas = cas_at(is_active, after))
+    )
 }
 
 /// A condition, from after its name.
 fn named_condition_at<'a>(name: &'a [u8], rest: Rest<'a>) -> Read<'a, Condition<'a>>
     ensures { Gives condition_tree result (named_condition_of name.now rest.entry.at (kinds rest.entry.tokens.now)) }
 {
-    match first(rest) {
-        Some((TokenKind::Symbol(Symbol::Refresh), after)) =>
+    match at_front(rest) {
+        (Front::Symbol(Symbol::Refresh), after) =>
             within!(Condition::Refresh(name, place); place = place_at(after)),
         _ => within!(Condition::Test(test); test = compared_at(name, rest)),
     }
@@ -92,9 +97,9 @@ fn named_condition_at<'a>(name: &'a [u8], rest: Rest<'a>) -> Read<'a, Condition<
 pub fn condition_at<'a>(rest: Rest<'a>) -> Read<'a, Condition<'a>>
     ensures { Gives condition_tree result (condition_of rest.entry.at (kinds rest.entry.tokens.now)) }
 {
-    match first(rest) {
-        Some((TokenKind::Word(Keyword::Cas), after)) => cas_condition_at(after),
-        Some((TokenKind::Name(name), after)) => named_condition_at(name.as_slice(), after),
+    match at_front(rest) {
+        (Front::Word(Keyword::Cas), after) => cas_condition_at(after),
+        (Front::Name(name), after) => named_condition_at(name, after),
         _ => within!(Condition::Test(test); test = test_at(rest)),
     }
 }

@@ -8,20 +8,20 @@ ghost use Rattle.plc_syntax.specs.Forms.{scheme_of, watch_of, set_field_of, set_
 ghost use Rattle.plc_syntax.specs.Answers.{Gives};
 
 use crate::form::{Declaration, Function, Initial, Set, Shared, Watch};
-use crate::front::{Read, first, name_and_at, stuck, symbol_at, word_at, word_if_at};
+use crate::front::{Front, Read, at_front, name_and_at, stuck, symbol_at, word_at, word_if_at};
 use crate::rest::Rest;
 use crate::statement::{atom_at, ghost_set_at, value_at};
-use crate::within;
-use plc_lex::{Keyword, Symbol, TokenKind};
+use crate::{in_turn, within};
+use plc_lex::{Keyword, Symbol};
 
 /// A field of the struct or a local.
 pub fn field_at<'a>(rest: Rest<'a>) -> Read<'a, Declaration<'a>>
     ensures { Gives field_tree result (field_of rest.entry.at (kinds rest.entry.tokens.now)) }
 {
-    match first(rest) {
-        Some((TokenKind::Word(Keyword::Ptr), after)) =>
+    match at_front(rest) {
+        (Front::Word(Keyword::Ptr), after) =>
             within!(Declaration::Pointer(name); name = name_and_at(after, Symbol::Semicolon)),
-        Some((TokenKind::Word(Keyword::Data), after)) =>
+        (Front::Word(Keyword::Data), after) =>
             within!(Declaration::Data(name); name = name_and_at(after, Symbol::Semicolon)),
         _ => Err(stuck(rest)),
     }
@@ -31,19 +31,23 @@ pub fn field_at<'a>(rest: Rest<'a>) -> Read<'a, Declaration<'a>>
 pub fn shared_at<'a>(rest: Rest<'a>) -> Read<'a, Shared<'a>>
     ensures { Gives shared_name result (shared_of rest.entry.at (kinds rest.entry.tokens.now)) }
 {
-    let after = word_at(rest, Keyword::Shared)?;
-    within!(Shared { name }; name = name_and_at(after, Symbol::Semicolon))
+    in_turn!(
+        after = word_at(rest, Keyword::Shared);
+        within!(Shared { name }; name = name_and_at(after, Symbol::Semicolon))
+    )
 }
 
 /// A function of the reclaimer.
 pub fn function_at<'a>(rest: Rest<'a>) -> Read<'a, Function<'a>>
     ensures { Gives function_tree result (function_of rest.entry.at (kinds rest.entry.tokens.now)) }
 {
-    let after = word_at(rest, Keyword::Call)?;
-    let (name, after) = name_and_at(after, Symbol::OpenParen)?;
-    within!(
-        Function { name, takes_pointer };
-        takes_pointer = word_if_at(after, Keyword::Ptr), CloseParen, Semicolon
+    in_turn!(
+        after = word_at(rest, Keyword::Call);
+        (name, after) = name_and_at(after, Symbol::OpenParen);
+        within!(
+            Function { name, takes_pointer };
+            takes_pointer = word_if_at(after, Keyword::Ptr), CloseParen, Semicolon
+        )
     )
 }
 
@@ -51,26 +55,30 @@ pub fn function_at<'a>(rest: Rest<'a>) -> Read<'a, Function<'a>>
 fn hazard_at<'a>(rest: Rest<'a>) -> Read<'a, Watch<'a>>
     ensures { Gives watch_tree result (hazard_of rest.entry.at (kinds rest.entry.tokens.now)) }
 {
-    let after = symbol_at(rest, Symbol::OpenParen)?;
-    within!(Watch::Hazard(function); function = name_and_at(after, Symbol::CloseParen), Semicolon)
+    in_turn!(
+        after = symbol_at(rest, Symbol::OpenParen);
+        within!(Watch::Hazard(function); function = name_and_at(after, Symbol::CloseParen), Semicolon)
+    )
 }
 
 /// The two functions of epochs, from after the word.
 fn epoch_at<'a>(rest: Rest<'a>) -> Read<'a, Watch<'a>>
     ensures { Gives watch_tree result (epoch_of rest.entry.at (kinds rest.entry.tokens.now)) }
 {
-    let after = symbol_at(rest, Symbol::OpenParen)?;
-    let (enter, after) = name_and_at(after, Symbol::Comma)?;
-    within!(Watch::Epoch(enter, leave); leave = name_and_at(after, Symbol::CloseParen), Semicolon)
+    in_turn!(
+        after = symbol_at(rest, Symbol::OpenParen);
+        (enter, after) = name_and_at(after, Symbol::Comma);
+        within!(Watch::Epoch(enter, leave); leave = name_and_at(after, Symbol::CloseParen), Semicolon)
+    )
 }
 
 /// What is watched, from after "use".
 fn scheme_at<'a>(rest: Rest<'a>) -> Read<'a, Watch<'a>>
     ensures { Gives watch_tree result (scheme_of rest.entry.at (kinds rest.entry.tokens.now)) }
 {
-    match first(rest) {
-        Some((TokenKind::Word(Keyword::Hazard), after)) => hazard_at(after),
-        Some((TokenKind::Word(Keyword::Epoch), after)) => epoch_at(after),
+    match at_front(rest) {
+        (Front::Word(Keyword::Hazard), after) => hazard_at(after),
+        (Front::Word(Keyword::Epoch), after) => epoch_at(after),
         _ => Err(stuck(rest)),
     }
 }
@@ -79,9 +87,8 @@ fn scheme_at<'a>(rest: Rest<'a>) -> Read<'a, Watch<'a>>
 pub fn watch_at<'a>(rest: Rest<'a>) -> Read<'a, Option<Watch<'a>>>
     ensures { Gives watched_tree result (watch_of rest.entry.at (kinds rest.entry.tokens.now)) }
 {
-    match first(rest) {
-        Some((TokenKind::Word(Keyword::Use), after)) =>
-            within!(Some(watch); watch = scheme_at(after)),
+    match at_front(rest) {
+        (Front::Word(Keyword::Use), after) => within!(Some(watch); watch = scheme_at(after)),
         _ => Ok((None, rest)),
     }
 }
@@ -90,18 +97,20 @@ pub fn watch_at<'a>(rest: Rest<'a>) -> Read<'a, Option<Watch<'a>>>
 fn set_field_at<'a>(name: &'a [u8], rest: Rest<'a>) -> Read<'a, Set<'a>>
     ensures { Gives set_tree result (set_field_of name.now rest.entry.at (kinds rest.entry.tokens.now)) }
 {
-    let (field, after) = name_and_at(rest, Symbol::Assign)?;
-    within!(Set::Field(name, field, atom); atom = atom_at(after))
+    in_turn!(
+        (field, after) = name_and_at(rest, Symbol::Assign);
+        within!(Set::Field(name, field, atom); atom = atom_at(after))
+    )
 }
 
 /// An assignment, from after its first name.
 fn set_of_name_at<'a>(name: &'a [u8], rest: Rest<'a>) -> Read<'a, Set<'a>>
     ensures { Gives set_tree result (set_of_name name.now rest.entry.at (kinds rest.entry.tokens.now)) }
 {
-    match first(rest) {
-        Some((TokenKind::Symbol(Symbol::Assign), after)) =>
+    match at_front(rest) {
+        (Front::Symbol(Symbol::Assign), after) =>
             within!(Set::Name(name, value); value = value_at(after)),
-        Some((TokenKind::Symbol(Symbol::Dot), after)) => set_field_at(name, after),
+        (Front::Symbol(Symbol::Dot), after) => set_field_at(name, after),
         _ => Err(stuck(rest)),
     }
 }
@@ -110,10 +119,10 @@ fn set_of_name_at<'a>(name: &'a [u8], rest: Rest<'a>) -> Read<'a, Set<'a>>
 pub fn initial_at<'a>(rest: Rest<'a>) -> Read<'a, Initial<'a>>
     ensures { Gives initial_tree result (initial_of rest.entry.at (kinds rest.entry.tokens.now)) }
 {
-    match first(rest) {
-        Some((TokenKind::Name(name), after)) =>
-            within!(Initial::Set(set); set = set_of_name_at(name.as_slice(), after), Semicolon),
-        Some((TokenKind::Word(Keyword::Ghost), after)) =>
+    match at_front(rest) {
+        (Front::Name(name), after) =>
+            within!(Initial::Set(set); set = set_of_name_at(name, after), Semicolon),
+        (Front::Word(Keyword::Ghost), after) =>
             within!(Initial::Ghost(set); set = ghost_set_at(after), Semicolon),
         _ => Err(stuck(rest)),
     }

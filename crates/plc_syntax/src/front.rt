@@ -4,6 +4,7 @@
 ghost use Rattle.std.specs.Prelude.{◌≡◌, ◌+◌, ◌∷◌, [], MatchOption, IfSome};
 ghost use Rattle.plc_syntax.specs.Syntax.{kinds};
 ghost use Rattle.plc_syntax.specs.Views.{text_of};
+ghost use Rattle.plc_syntax.specs.Fronts.{front_then, front_end};
 ghost use Rattle.plc_syntax.specs.Forms.{word_of, word_if_of, symbol_of, name_of, name_and, number_of, comma_name_of};
 ghost use Rattle.plc_syntax.specs.Answers.{Gives, Passes};
 
@@ -14,14 +15,40 @@ use plc_lex::{Keyword, Symbol, TokenKind};
 /// A tree and what stands after it, or why there is none.
 pub type Read<'a, X> = Result<(X, Rest<'a>), Fault>;
 
+/// Readers one after another, and what is answered with what they read. Where one refuses, its fault is the answer.
+/// It is a match on each and no `?`, whose compiled code is longer, and so its proof.
+#[macro_export]
+macro_rules! in_turn {
+    ($answer:expr) => { $answer };
+    ($read:pat = $reader:expr; $($then:tt)*) => {
+        match $reader {
+            Ok($read) => $crate::in_turn!($($then)*),
+            Err(fault) => Err(fault),
+        }
+    };
+}
+
 /// A form, which holds what is read by its name, and then the symbols that end it.
 #[macro_export]
 macro_rules! within {
-    ($form:expr; $part:ident = $read:expr $(, $end:ident)*) => {{
-        let ($part, after) = $read?;
-        $(let after = $crate::symbol_at(after, plc_lex::Symbol::$end)?;)*
-        Ok(($form, after))
-    }};
+    ($form:expr; $part:ident = $read:expr) => {
+        $crate::in_turn!(($part, after) = $read; Ok(($form, after)))
+    };
+    ($form:expr; $part:ident = $read:expr, $end:ident) => {
+        $crate::in_turn!(
+            ($part, after) = $read;
+            after = $crate::symbol_at(after, plc_lex::Symbol::$end);
+            Ok(($form, after))
+        )
+    };
+    ($form:expr; $part:ident = $read:expr, $end:ident, $last:ident) => {
+        $crate::in_turn!(
+            ($part, after) = $read;
+            after = $crate::symbol_at(after, plc_lex::Symbol::$end);
+            after = $crate::symbol_at(after, plc_lex::Symbol::$last);
+            Ok(($form, after))
+        )
+    };
 }
 
 /// The fault at the first token.
@@ -46,12 +73,38 @@ pub fn first<'a>(rest: Rest<'a>) -> Option<(&'a TokenKind, Rest<'a>)>
     }
 }
 
+/// What stands at the front.
+#[derive(Clone, Copy)]
+pub enum Front<'a> {
+    Word(Keyword),
+    Name(&'a [u8]),
+    Number(u32),
+    Symbol(Symbol),
+    /// No token.
+    End,
+}
+
+/// The first token as a value, and what stands after it. A match on it is cheaper to prove than one on what
+/// `first` borrows.
+pub fn at_front<'a>(rest: Rest<'a>) -> (Front<'a>, Rest<'a>)
+    ensures read { kinds rest.entry.tokens.now ≡ front_then result.0 (kinds result.1.tokens.now) }
+    ensures at { result.1.at ≡ front_end result.0 rest.entry.at }
+{
+    match first(rest) {
+        Some((TokenKind::Word(word), after)) => (Front::Word(*word), after),
+        Some((TokenKind::Name(name), after)) => (Front::Name(name.as_slice()), after),
+        Some((TokenKind::Number(number), after)) => (Front::Number(*number), after),
+        Some((TokenKind::Symbol(symbol), after)) => (Front::Symbol(*symbol), after),
+        None => (Front::End, rest),
+    }
+}
+
 /// A keyword.
 pub fn word_at<'a>(rest: Rest<'a>, word: Keyword) -> Result<Rest<'a>, Fault>
     ensures { Passes result (word_of word rest.entry.at (kinds rest.entry.tokens.now)) }
 {
-    match first(rest) {
-        Some((TokenKind::Word(found), after)) if *found == word => Ok(after),
+    match at_front(rest) {
+        (Front::Word(found), after) if found == word => Ok(after),
         _ => Err(stuck(rest)),
     }
 }
@@ -60,8 +113,8 @@ pub fn word_at<'a>(rest: Rest<'a>, word: Keyword) -> Result<Rest<'a>, Fault>
 pub fn word_if_at<'a>(rest: Rest<'a>, word: Keyword) -> Read<'a, bool>
     ensures { Gives (λ b. b) result (word_if_of word rest.entry.at (kinds rest.entry.tokens.now)) }
 {
-    match first(rest) {
-        Some((TokenKind::Word(found), after)) if *found == word => Ok((true, after)),
+    match at_front(rest) {
+        (Front::Word(found), after) if found == word => Ok((true, after)),
         _ => Ok((false, rest)),
     }
 }
@@ -70,8 +123,8 @@ pub fn word_if_at<'a>(rest: Rest<'a>, word: Keyword) -> Read<'a, bool>
 pub fn symbol_at<'a>(rest: Rest<'a>, symbol: Symbol) -> Result<Rest<'a>, Fault>
     ensures { Passes result (symbol_of symbol rest.entry.at (kinds rest.entry.tokens.now)) }
 {
-    match first(rest) {
-        Some((TokenKind::Symbol(found), after)) if *found == symbol => Ok(after),
+    match at_front(rest) {
+        (Front::Symbol(found), after) if found == symbol => Ok(after),
         _ => Err(stuck(rest)),
     }
 }
@@ -80,8 +133,8 @@ pub fn symbol_at<'a>(rest: Rest<'a>, symbol: Symbol) -> Result<Rest<'a>, Fault>
 pub fn name_at<'a>(rest: Rest<'a>) -> Read<'a, &'a [u8]>
     ensures { Gives text_of result (name_of rest.entry.at (kinds rest.entry.tokens.now)) }
 {
-    match first(rest) {
-        Some((TokenKind::Name(name), after)) => Ok((name.as_slice(), after)),
+    match at_front(rest) {
+        (Front::Name(name), after) => Ok((name, after)),
         _ => Err(stuck(rest)),
     }
 }
@@ -90,8 +143,8 @@ pub fn name_at<'a>(rest: Rest<'a>) -> Read<'a, &'a [u8]>
 pub fn comma_name_at<'a>(rest: Rest<'a>) -> Read<'a, &'a [u8]>
     ensures { Gives text_of result (comma_name_of rest.entry.at (kinds rest.entry.tokens.now)) }
 {
-    match first(rest) {
-        Some((TokenKind::Symbol(Symbol::Comma), after)) => name_at(after),
+    match at_front(rest) {
+        (Front::Symbol(Symbol::Comma), after) => name_at(after),
         _ => Err(stuck(rest)),
     }
 }
@@ -100,16 +153,19 @@ pub fn comma_name_at<'a>(rest: Rest<'a>) -> Read<'a, &'a [u8]>
 pub fn name_and_at<'a>(rest: Rest<'a>, symbol: Symbol) -> Read<'a, &'a [u8]>
     ensures { Gives text_of result (name_and symbol rest.entry.at (kinds rest.entry.tokens.now)) }
 {
-    let (name, after) = name_at(rest)?;
-    Ok((name, symbol_at(after, symbol)?))
+    in_turn!(
+        (name, after) = name_at(rest);
+        after = symbol_at(after, symbol);
+        Ok((name, after))
+    )
 }
 
 /// A number.
 pub fn number_at<'a>(rest: Rest<'a>) -> Read<'a, u32>
     ensures { Gives (λ n. n) result (number_of rest.entry.at (kinds rest.entry.tokens.now)) }
 {
-    match first(rest) {
-        Some((TokenKind::Number(number), after)) => Ok((*number, after)),
+    match at_front(rest) {
+        (Front::Number(number), after) => Ok((number, after)),
         _ => Err(stuck(rest)),
     }
 }

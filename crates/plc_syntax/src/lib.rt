@@ -25,7 +25,9 @@ pub use form::{
     Argument, Atom, Bound, Call, Cas, Condition, Declaration, Flag, Function, GhostSet, GhostValue,
     Initial, Literal, Place, Primitive, Refresh, Relation, Set, Shared, Term, Test, Value, Watch,
 };
-pub use front::{Read, comma_name_at, first, name_and_at, name_at, stuck, symbol_at, word_at};
+pub use front::{
+    Front, Read, at_front, comma_name_at, first, name_and_at, name_at, stuck, symbol_at, word_at,
+};
 pub use marks::trees_spell_their_marks;
 pub use rest::Rest;
 pub use statement::{argument_at, during_at, named_tail_at, primitive_line_at};

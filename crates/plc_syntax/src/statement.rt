@@ -10,17 +10,17 @@ ghost use Rattle.plc_syntax.specs.Answers.{Gives};
 
 use crate::condition::test_at;
 use crate::form::{Argument, Atom, GhostSet, GhostValue, Place, Primitive, Refresh, Set, Value};
-use crate::front::{Read, first, name_and_at, name_at, stuck};
+use crate::front::{Front, Read, at_front, name_and_at, name_at, stuck};
 use crate::rest::Rest;
-use crate::within;
-use plc_lex::{Keyword, Symbol, TokenKind};
+use crate::{in_turn, within};
+use plc_lex::{Keyword, Symbol};
 
 /// A place, from after its name.
 pub fn place_of_name_at<'a>(name: &'a [u8], rest: Rest<'a>) -> Read<'a, Place<'a>>
     ensures { Gives place_tree result (place_of_name name.now rest.entry.at (kinds rest.entry.tokens.now)) }
 {
-    match first(rest) {
-        Some((TokenKind::Symbol(Symbol::Dot), after)) =>
+    match at_front(rest) {
+        (Front::Symbol(Symbol::Dot), after) =>
             within!(Place { name, field: Some(field) }; field = name_at(after)),
         _ => Ok((Place { name, field: None }, rest)),
     }
@@ -30,24 +30,25 @@ pub fn place_of_name_at<'a>(name: &'a [u8], rest: Rest<'a>) -> Read<'a, Place<'a
 pub fn place_at<'a>(rest: Rest<'a>) -> Read<'a, Place<'a>>
     ensures { Gives place_tree result (place_of rest.entry.at (kinds rest.entry.tokens.now)) }
 {
-    let (name, after) = name_at(rest)?;
-    place_of_name_at(name, after)
+    in_turn!(
+        (name, after) = name_at(rest);
+        place_of_name_at(name, after)
+    )
 }
 
 /// What is put into a name.
 pub fn value_at<'a>(rest: Rest<'a>) -> Read<'a, Value<'a>>
     ensures { Gives value_tree result (value_of rest.entry.at (kinds rest.entry.tokens.now)) }
 {
-    match first(rest) {
-        Some((TokenKind::Word(Keyword::Null), after)) => Ok((Value::Null, after)),
-        Some((TokenKind::Word(Keyword::New), after)) => Ok((Value::New, after)),
-        Some((TokenKind::Number(n), after)) => Ok((Value::Number(*n), after)),
-        Some((TokenKind::Word(Keyword::Mark), after)) =>
-            within!(Value::Mark(name); name = name_at(after)),
-        Some((TokenKind::Word(Keyword::Unmark), after)) =>
+    match at_front(rest) {
+        (Front::Word(Keyword::Null), after) => Ok((Value::Null, after)),
+        (Front::Word(Keyword::New), after) => Ok((Value::New, after)),
+        (Front::Number(n), after) => Ok((Value::Number(n), after)),
+        (Front::Word(Keyword::Mark), after) => within!(Value::Mark(name); name = name_at(after)),
+        (Front::Word(Keyword::Unmark), after) =>
             within!(Value::Unmark(name); name = name_at(after)),
-        Some((TokenKind::Name(name), after)) =>
-            within!(Value::Place(place); place = place_of_name_at(name.as_slice(), after)),
+        (Front::Name(name), after) =>
+            within!(Value::Place(place); place = place_of_name_at(name, after)),
         _ => Err(stuck(rest)),
     }
 }
@@ -56,10 +57,10 @@ pub fn value_at<'a>(rest: Rest<'a>) -> Read<'a, Value<'a>>
 pub fn atom_at<'a>(rest: Rest<'a>) -> Read<'a, Atom<'a>>
     ensures { Gives atom_tree result (atom_of rest.entry.at (kinds rest.entry.tokens.now)) }
 {
-    match first(rest) {
-        Some((TokenKind::Word(Keyword::Null), after)) => Ok((Atom::Null, after)),
-        Some((TokenKind::Number(n), after)) => Ok((Atom::Number(*n), after)),
-        Some((TokenKind::Name(name), after)) => Ok((Atom::Name(name.as_slice()), after)),
+    match at_front(rest) {
+        (Front::Word(Keyword::Null), after) => Ok((Atom::Null, after)),
+        (Front::Number(n), after) => Ok((Atom::Number(n), after)),
+        (Front::Name(name), after) => Ok((Atom::Name(name), after)),
         _ => Err(stuck(rest)),
     }
 }
@@ -68,10 +69,10 @@ pub fn atom_at<'a>(rest: Rest<'a>) -> Read<'a, Atom<'a>>
 fn ghost_value_at<'a>(rest: Rest<'a>) -> Read<'a, GhostValue<'a>>
     ensures { Gives ghost_value_tree result (ghost_value_of rest.entry.at (kinds rest.entry.tokens.now)) }
 {
-    match first(rest) {
-        Some((TokenKind::Name(name), after)) => Ok((GhostValue::Name(name.as_slice()), after)),
-        Some((TokenKind::Word(Keyword::Me), after)) => Ok((GhostValue::Me, after)),
-        Some((TokenKind::Word(Keyword::None), after)) => Ok((GhostValue::None, after)),
+    match at_front(rest) {
+        (Front::Name(name), after) => Ok((GhostValue::Name(name), after)),
+        (Front::Word(Keyword::Me), after) => Ok((GhostValue::Me, after)),
+        (Front::Word(Keyword::None), after) => Ok((GhostValue::None, after)),
         _ => Err(stuck(rest)),
     }
 }
@@ -80,26 +81,28 @@ fn ghost_value_at<'a>(rest: Rest<'a>) -> Read<'a, GhostValue<'a>>
 fn field_tail_at<'a>(name: &'a [u8], rest: Rest<'a>) -> Read<'a, Primitive<'a>>
     ensures { Gives primitive_tree result (field_tail_of name.now rest.entry.at (kinds rest.entry.tokens.now)) }
 {
-    let (field, rest) = name_at(rest)?;
-    match first(rest) {
-        Some((TokenKind::Symbol(Symbol::Assign), after)) =>
-            within!(Primitive::Set(Set::Field(name, field, atom)); atom = atom_at(after)),
-        Some((TokenKind::Symbol(Symbol::Refresh), after)) =>
-            within!(Primitive::Refresh(Refresh::Field(name, field, from)); from = name_at(after)),
-        _ => Err(stuck(rest)),
-    }
+    in_turn!(
+        (field, rest) = name_at(rest);
+        match at_front(rest) {
+            (Front::Symbol(Symbol::Assign), after) =>
+                within!(Primitive::Set(Set::Field(name, field, atom)); atom = atom_at(after)),
+            (Front::Symbol(Symbol::Refresh), after) =>
+                within!(Primitive::Refresh(Refresh::Field(name, field, from)); from = name_at(after)),
+            _ => Err(stuck(rest)),
+        }
+    )
 }
 
 /// What follows a name on the left.
 pub fn named_tail_at<'a>(name: &'a [u8], rest: Rest<'a>) -> Read<'a, Primitive<'a>>
     ensures { Gives primitive_tree result (named_tail_of name.now rest.entry.at (kinds rest.entry.tokens.now)) }
 {
-    match first(rest) {
-        Some((TokenKind::Symbol(Symbol::Assign), after)) =>
+    match at_front(rest) {
+        (Front::Symbol(Symbol::Assign), after) =>
             within!(Primitive::Set(Set::Name(name, value)); value = value_at(after)),
-        Some((TokenKind::Symbol(Symbol::Refresh), after)) =>
+        (Front::Symbol(Symbol::Refresh), after) =>
             within!(Primitive::Refresh(Refresh::Name(name, place)); place = place_at(after)),
-        Some((TokenKind::Symbol(Symbol::Dot), after)) => field_tail_at(name, after),
+        (Front::Symbol(Symbol::Dot), after) => field_tail_at(name, after),
         _ => Err(stuck(rest)),
     }
 }
@@ -108,24 +111,26 @@ pub fn named_tail_at<'a>(name: &'a [u8], rest: Rest<'a>) -> Read<'a, Primitive<'
 pub fn ghost_set_at<'a>(rest: Rest<'a>) -> Read<'a, GhostSet<'a>>
     ensures { Gives ghost_set_tree result (ghost_set_of rest.entry.at (kinds rest.entry.tokens.now)) }
 {
-    let (name, after) = name_and_at(rest, Symbol::Dot)?;
-    let (field, after) = name_and_at(after, Symbol::Assign)?;
-    within!(GhostSet { name, field, value }; value = ghost_value_at(after))
+    in_turn!(
+        (name, after) = name_and_at(rest, Symbol::Dot);
+        (field, after) = name_and_at(after, Symbol::Assign);
+        within!(GhostSet { name, field, value }; value = ghost_value_at(after))
+    )
 }
 
 /// A primitive, without its semicolon.
 fn primitive_at<'a>(rest: Rest<'a>) -> Read<'a, Primitive<'a>>
     ensures { Gives primitive_tree result (primitive_of rest.entry.at (kinds rest.entry.tokens.now)) }
 {
-    match first(rest) {
-        Some((TokenKind::Name(name), after)) => named_tail_at(name.as_slice(), after),
-        Some((TokenKind::Word(Keyword::Ghost), after)) =>
+    match at_front(rest) {
+        (Front::Name(name), after) => named_tail_at(name, after),
+        (Front::Word(Keyword::Ghost), after) =>
             within!(Primitive::Ghost(set); set = ghost_set_at(after)),
-        Some((TokenKind::Word(Keyword::Active), after)) =>
+        (Front::Word(Keyword::Active), after) =>
             within!(Primitive::Active(name); name = name_at(after)),
-        Some((TokenKind::Word(Keyword::Assume), after)) =>
+        (Front::Word(Keyword::Assume), after) =>
             within!(Primitive::Assume(test); test = test_at(after)),
-        Some((TokenKind::Word(Keyword::Skip), after)) => Ok((Primitive::Skip, after)),
+        (Front::Word(Keyword::Skip), after) => Ok((Primitive::Skip, after)),
         _ => Err(stuck(rest)),
     }
 }
@@ -141,10 +146,10 @@ pub fn primitive_line_at<'a>(rest: Rest<'a>) -> Read<'a, Primitive<'a>>
 pub fn argument_at<'a>(rest: Rest<'a>) -> Read<'a, Argument<'a>>
     ensures { Gives argument_tree result (argument_of rest.entry.at (kinds rest.entry.tokens.now)) }
 {
-    match first(rest) {
-        Some((TokenKind::Word(Keyword::Null), after)) => Ok((Argument::Null, after)),
-        Some((TokenKind::Name(name), after)) => Ok((Argument::Name(name.as_slice()), after)),
-        Some((TokenKind::Word(Keyword::Active), after)) =>
+    match at_front(rest) {
+        (Front::Word(Keyword::Null), after) => Ok((Argument::Null, after)),
+        (Front::Name(name), after) => Ok((Argument::Name(name), after)),
+        (Front::Word(Keyword::Active), after) =>
             within!(Argument::Active(name); name = name_at(after)),
         _ => Ok((Argument::None, rest)),
     }
@@ -154,9 +159,8 @@ pub fn argument_at<'a>(rest: Rest<'a>) -> Read<'a, Argument<'a>>
 pub fn during_at<'a>(rest: Rest<'a>) -> Read<'a, Option<&'a [u8]>>
     ensures { Gives text_or_none result (during_of rest.entry.at (kinds rest.entry.tokens.now)) }
 {
-    match first(rest) {
-        Some((TokenKind::Word(Keyword::During), after)) =>
-            within!(Some(name); name = name_at(after)),
+    match at_front(rest) {
+        (Front::Word(Keyword::During), after) => within!(Some(name); name = name_at(after)),
         _ => Ok((None, rest)),
     }
 }

@@ -7,18 +7,20 @@ ghost use Rattle.plc_tree.specs.FormViews.{kind_tree, auxiliary_tree, starts_tre
 use crate::form::{Auxiliary, AuxiliaryKind};
 use crate::list::{braced_list_at, ended_list_at};
 use plc_base::Items;
-use plc_lex::{Keyword, Symbol, TokenKind};
-use plc_syntax::{Initial, Read, Rest, first, name_at, stuck, within};
+use plc_lex::{Keyword, Symbol};
+use plc_syntax::{Front, Initial, Read, Rest, at_front, in_turn, name_at, stuck, within};
 use std::alloc::Global;
 
 /// The values of an auxiliary field, from after the opening brace.
 fn values_at<'a>(alloc: Global, most: usize, rest: Rest<'a>) -> Read<'a, AuxiliaryKind<'a>>
     ensures { Gives kind_tree result (values_of most rest.entry.at (kinds rest.entry.tokens.now)) }
 {
-    let (first, after) = name_at(rest)?;
-    within!(
-        AuxiliaryKind::OneOf(first, others);
-        others = ended_list_at(alloc, most, after, Symbol::CloseBrace)
+    in_turn!(
+        (first, after) = name_at(rest);
+        within!(
+            AuxiliaryKind::OneOf(first, others);
+            others = ended_list_at(alloc, most, after, Symbol::CloseBrace)
+        )
     )
 }
 
@@ -26,9 +28,9 @@ fn values_at<'a>(alloc: Global, most: usize, rest: Rest<'a>) -> Read<'a, Auxilia
 fn ghost_kind_at<'a>(alloc: Global, most: usize, rest: Rest<'a>) -> Read<'a, AuxiliaryKind<'a>>
     ensures { Gives kind_tree result (ghost_kind_of most rest.entry.at (kinds rest.entry.tokens.now)) }
 {
-    match first(rest) {
-        Some((TokenKind::Symbol(Symbol::OpenBrace), after)) => values_at(alloc, most, after),
-        Some((TokenKind::Word(Keyword::Thread), after)) => Ok((AuxiliaryKind::OfThreads, after)),
+    match at_front(rest) {
+        (Front::Symbol(Symbol::OpenBrace), after) => values_at(alloc, most, after),
+        (Front::Word(Keyword::Thread), after) => Ok((AuxiliaryKind::OfThreads, after)),
         _ => Err(stuck(rest)),
     }
 }
@@ -37,16 +39,18 @@ fn ghost_kind_at<'a>(alloc: Global, most: usize, rest: Rest<'a>) -> Read<'a, Aux
 fn ghost_tail_at<'a>(alloc: Global, most: usize, rest: Rest<'a>) -> Read<'a, Auxiliary<'a>>
     ensures { Gives auxiliary_tree result (ghost_tail_of most rest.entry.at (kinds rest.entry.tokens.now)) }
 {
-    let (name, after) = name_at(rest)?;
-    within!(Auxiliary { name, kind }; kind = ghost_kind_at(alloc, most, after), Semicolon)
+    in_turn!(
+        (name, after) = name_at(rest);
+        within!(Auxiliary { name, kind }; kind = ghost_kind_at(alloc, most, after), Semicolon)
+    )
 }
 
 /// An auxiliary field.
 pub fn ghost_at<'a>(alloc: Global, most: usize, rest: Rest<'a>) -> Read<'a, Auxiliary<'a>>
     ensures { Gives auxiliary_tree result (ghost_of most rest.entry.at (kinds rest.entry.tokens.now)) }
 {
-    match first(rest) {
-        Some((TokenKind::Word(Keyword::Ghost), after)) => ghost_tail_at(alloc, most, after),
+    match at_front(rest) {
+        (Front::Word(Keyword::Ghost), after) => ghost_tail_at(alloc, most, after),
         _ => Err(stuck(rest)),
     }
 }
@@ -59,8 +63,8 @@ pub fn init_at<'a>(
 ) -> Read<'a, Option<Items<Initial<'a>>>>
     ensures { Gives starts_tree result (init_of most rest.entry.at (kinds rest.entry.tokens.now)) }
 {
-    match first(rest) {
-        Some((TokenKind::Word(Keyword::Init), after)) =>
+    match at_front(rest) {
+        (Front::Word(Keyword::Init), after) =>
             within!(Some(sets); sets = braced_list_at(alloc, most, after)),
         _ => Ok((None, rest)),
     }

@@ -15,8 +15,8 @@ use crate::statement::{
     atomic_at, ended_at, guard_at, label_at, named_statement_at, primitive_statement_at,
 };
 use crate::tree::{Block, Stmt};
-use plc_lex::{Keyword, Symbol, TokenKind};
-use plc_syntax::{Read, Rest, first, stuck, symbol_at, within};
+use plc_lex::{Keyword, Symbol};
+use plc_syntax::{Front, Read, Rest, at_front, in_turn, stuck, symbol_at, within};
 use std::alloc::Global;
 
 /// Whether a statement begins with a word.
@@ -43,9 +43,9 @@ fn is_statement_word(word: Keyword) -> bool
 fn begins_statement<'a>(rest: Rest<'a>) -> bool
     ensures { result ≡ first_is begins_statement (kinds rest.entry.tokens.now) }
 {
-    match first(rest) {
-        Some((TokenKind::Word(word), _)) => is_statement_word(*word),
-        Some((TokenKind::Name(_), _)) => true,
+    match at_front(rest) {
+        (Front::Word(word), _) => is_statement_word(word),
+        (Front::Name(_), _) => true,
         _ => false,
     }
 }
@@ -54,7 +54,7 @@ fn begins_statement<'a>(rest: Rest<'a>) -> bool
 fn begins_or<'a>(rest: Rest<'a>) -> bool
     ensures { result ≡ first_is begins_or (kinds rest.entry.tokens.now) }
 {
-    matches!(first(rest), Some((TokenKind::Word(Keyword::Or), _)))
+    matches!(at_front(rest), (Front::Word(Keyword::Or), _))
 }
 
 /// What stands after an opening brace, with the closing one.
@@ -62,8 +62,7 @@ fn begins_or<'a>(rest: Rest<'a>) -> bool
 pub fn block_at<'a>(alloc: Global, most: usize, rest: Rest<'a>) -> Read<'a, Block<'a>>
     ensures { Gives (λ b. b) result (block_of most rest.entry.at (kinds rest.entry.tokens.now)) }
 {
-    let (block, after) = statements_at(alloc, most, rest)?;
-    Ok((block, symbol_at(after, Symbol::CloseBrace)?))
+    within!(block; block = statements_at(alloc, most, rest), CloseBrace)
 }
 
 /// A block with its opening brace.
@@ -72,7 +71,7 @@ fn braced_at<'a>(alloc: Global, most: usize, rest: Rest<'a>) -> Read<'a, Block<'
     ensures { Gives (λ b. b) result
         (braced_of (block_of most) rest.entry.at (kinds rest.entry.tokens.now)) }
 {
-    block_at(alloc, most, symbol_at(rest, Symbol::OpenBrace)?)
+    in_turn!(after = symbol_at(rest, Symbol::OpenBrace); block_at(alloc, most, after))
 }
 
 /// A loop, from after its word.
@@ -90,8 +89,8 @@ fn loop_at<'a>(alloc: Global, most: usize, rest: Rest<'a>) -> Read<'a, Stmt<'a>>
 fn else_at<'a>(alloc: Global, most: usize, rest: Rest<'a>) -> Read<'a, Option<Block<'a>>>
     ensures { Gives else_tree result (else_of (block_of most) rest.entry.at (kinds rest.entry.tokens.now)) }
 {
-    match first(rest) {
-        Some((TokenKind::Word(Keyword::Else), after)) =>
+    match at_front(rest) {
+        (Front::Word(Keyword::Else), after) =>
             within!(Some(block); block = braced_at(alloc, most, after)),
         _ => Ok((None, rest)),
     }
@@ -103,9 +102,11 @@ fn else_at<'a>(alloc: Global, most: usize, rest: Rest<'a>) -> Read<'a, Option<Bl
 fn if_at<'a>(alloc: Global, most: usize, rest: Rest<'a>) -> Read<'a, Stmt<'a>>
     ensures { Gives statement_tree result (if_of (block_of most) rest.entry.at (kinds rest.entry.tokens.now)) }
 {
-    let (condition, after) = guard_at(rest)?;
-    let (yes, after) = braced_at(alloc, most, after)?;
-    within!(Stmt::If { condition, yes, no }; no = else_at(alloc, most, after))
+    in_turn!(
+        (condition, after) = guard_at(rest);
+        (yes, after) = braced_at(alloc, most, after);
+        within!(Stmt::If { condition, yes, no }; no = else_at(alloc, most, after))
+    )
 }
 
 /// A further block of a choice.
@@ -114,8 +115,8 @@ fn or_block_at<'a>(alloc: Global, most: usize, rest: Rest<'a>) -> Read<'a, Block
     ensures { Gives (λ b. b) result
         (or_block_of (block_of most) rest.entry.at (kinds rest.entry.tokens.now)) }
 {
-    match first(rest) {
-        Some((TokenKind::Word(Keyword::Or), after)) => braced_at(alloc, most, after),
+    match at_front(rest) {
+        (Front::Word(Keyword::Or), after) => braced_at(alloc, most, after),
         _ => Err(stuck(rest)),
     }
 }
@@ -147,9 +148,11 @@ fn choose_at<'a>(alloc: Global, most: usize, rest: Rest<'a>) -> Read<'a, Stmt<'a
     ensures { Gives statement_tree result
         (choose_of (block_of most) (ors_of most) rest.entry.at (kinds rest.entry.tokens.now)) }
 {
-    let (first, after) = braced_at(alloc, most, rest)?;
-    let (second, after) = or_block_at(alloc, most, after)?;
-    within!(Stmt::Choose { first, second, others }; others = ors_at(alloc, most, after))
+    in_turn!(
+        (first, after) = braced_at(alloc, most, rest);
+        (second, after) = or_block_at(alloc, most, after);
+        within!(Stmt::Choose { first, second, others }; others = ors_at(alloc, most, after))
+    )
 }
 
 /// A statement; at most so many stand within it.
@@ -159,15 +162,15 @@ fn statement_at<'a>(alloc: Global, most: usize, rest: Rest<'a>) -> Read<'a, Stmt
     ensures { Gives statement_tree result
         (statement_of (block_of most) (ors_of most) most rest.entry.at (kinds rest.entry.tokens.now)) }
 {
-    match first(rest) {
-        Some((TokenKind::Name(name), after)) => named_statement_at(name.as_slice(), after),
-        Some((TokenKind::Word(Keyword::Atomic), after)) => atomic_at(alloc, most, after),
-        Some((TokenKind::Word(Keyword::If), after)) => if_at(alloc, most, after),
-        Some((TokenKind::Word(Keyword::Choose), after)) => choose_at(alloc, most, after),
-        Some((TokenKind::Word(Keyword::Loop), after)) => loop_at(alloc, most, after),
-        Some((TokenKind::Word(Keyword::Break), after)) => ended_at(Stmt::Break, after),
-        Some((TokenKind::Word(Keyword::Return), after)) => ended_at(Stmt::Return, after),
-        Some((TokenKind::Word(Keyword::Label), after)) => label_at(after),
+    match at_front(rest) {
+        (Front::Name(name), after) => named_statement_at(name, after),
+        (Front::Word(Keyword::Atomic), after) => atomic_at(alloc, most, after),
+        (Front::Word(Keyword::If), after) => if_at(alloc, most, after),
+        (Front::Word(Keyword::Choose), after) => choose_at(alloc, most, after),
+        (Front::Word(Keyword::Loop), after) => loop_at(alloc, most, after),
+        (Front::Word(Keyword::Break), after) => ended_at(Stmt::Break, after),
+        (Front::Word(Keyword::Return), after) => ended_at(Stmt::Return, after),
+        (Front::Word(Keyword::Label), after) => label_at(after),
         _ => primitive_statement_at(rest),
     }
 }

@@ -22,8 +22,8 @@ use crate::outline::outlined_at;
 use plc_base::Items;
 use plc_lex::{Keyword, Token};
 use plc_syntax::{
-    Declaration, Fault, Function, Initial, Read, Rest, Shared, Watch, name_at, stuck, watch_at,
-    within, word_at,
+    Declaration, Fault, Function, Initial, Read, Rest, Shared, Watch, in_turn, name_at, stuck,
+    watch_at, within, word_at,
 };
 use std::alloc::Global;
 
@@ -68,23 +68,27 @@ pub struct File<'a> {
 fn struct_at<'a>(alloc: Global, most: usize, rest: Rest<'a>) -> Read<'a, Struct<'a>>
     ensures { Gives struct_parts result (struct_of most rest.entry.at (kinds rest.entry.tokens.now)) }
 {
-    let after = word_at(rest, Keyword::Struct)?;
-    let (name, after) = name_at(after)?;
-    within!(Struct { name, fields }; fields = braced_list_at(alloc, most, after))
+    in_turn!(
+        after = word_at(rest, Keyword::Struct);
+        (name, after) = name_at(after);
+        within!(Struct { name, fields }; fields = braced_list_at(alloc, most, after))
+    )
 }
 
 /// What stands before the operations.
 fn heading_at<'a>(alloc: Global, most: usize, rest: Rest<'a>) -> Read<'a, Heading<'a>>
     ensures { Gives heading_tree result (heading_of most rest.entry.at (kinds rest.entry.tokens.now)) }
 {
-    let (node, after) = struct_at(alloc, most, rest)?;
-    let (pointers, after) = list_at(alloc, most, after)?;
-    let (functions, after) = list_at(alloc, most, after)?;
-    let (watched, after) = watch_at(after)?;
-    let (auxiliaries, after) = list_at(alloc, most, after)?;
-    within!(
-        Heading { node, pointers, functions, watched, auxiliaries, starts };
-        starts = init_at(alloc, most, after)
+    in_turn!(
+        (node, after) = struct_at(alloc, most, rest);
+        (pointers, after) = list_at(alloc, most, after);
+        (functions, after) = list_at(alloc, most, after);
+        (watched, after) = watch_at(after);
+        (auxiliaries, after) = list_at(alloc, most, after);
+        within!(
+            Heading { node, pointers, functions, watched, auxiliaries, starts };
+            starts = init_at(alloc, most, after)
+        )
     )
 }
 
@@ -92,9 +96,11 @@ fn heading_at<'a>(alloc: Global, most: usize, rest: Rest<'a>) -> Read<'a, Headin
 fn file_at<'a>(alloc: Global, most: usize, rest: Rest<'a>) -> Read<'a, File<'a>>
     ensures { Gives file_tree result (file_of most rest.entry.at (kinds rest.entry.tokens.now)) }
 {
-    let (heading, after) = heading_at(alloc, most, rest)?;
-    let (operations, after) = list_at(alloc, most, after)?;
-    within!(File { heading, operations, outline }; outline = outlined_at(alloc, most, after))
+    in_turn!(
+        (heading, after) = heading_at(alloc, most, rest);
+        (operations, after) = list_at(alloc, most, after);
+        within!(File { heading, operations, outline }; outline = outlined_at(alloc, most, after))
+    )
 }
 
 /// The tree of tokens, however deep its blocks stand.

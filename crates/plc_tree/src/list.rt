@@ -9,7 +9,7 @@ ghost use Rattle.plc_tree.specs.Forms.{closed_of, braced_of};
 
 use plc_base::Items;
 use plc_lex::{Symbol, TokenKind};
-use plc_syntax::{Read, Rest, first, stuck, symbol_at};
+use plc_syntax::{Read, Rest, first, in_turn, stuck, symbol_at};
 use std::alloc::Global;
 
 /// What a list is made of.
@@ -77,8 +77,11 @@ pub fn ended_list_at<'a, T: Listed<'a>>(
     ensures { Gives (λ xs. map T.tree xs) result
         (ended_by end (list_of T.starts T.of most) rest.entry.at (kinds rest.entry.tokens.now)) }
 {
-    let (items, after) = list_at(alloc, most, rest)?;
-    Ok((items, symbol_at(after, end)?))
+    in_turn!(
+        (items, after) = list_at(alloc, most, rest);
+        after = symbol_at(after, end);
+        Ok((items, after))
+    )
 }
 
 /// The items of a list within braces; at most so many.
@@ -90,6 +93,8 @@ pub fn braced_list_at<'a, T: Listed<'a>>(
     ensures { Gives (λ xs. map T.tree xs) result
         (braced_of (closed_of (list_of T.starts T.of most)) rest.entry.at (kinds rest.entry.tokens.now)) }
 {
-    let after = symbol_at(rest, Symbol::OpenBrace)?;
-    ended_list_at(alloc, most, after, Symbol::CloseBrace)
+    in_turn!(
+        after = symbol_at(rest, Symbol::OpenBrace);
+        ended_list_at(alloc, most, after, Symbol::CloseBrace)
+    )
 }

@@ -8,8 +8,10 @@ use crate::block::block_at;
 use crate::list::{ended_list_at, list_at};
 use crate::tree::Block;
 use plc_base::Items;
-use plc_lex::{Keyword, Symbol, TokenKind};
-use plc_syntax::{Declaration, Read, Rest, first, name_and_at, stuck, symbol_at, within};
+use plc_lex::{Keyword, Symbol};
+use plc_syntax::{
+    Declaration, Front, Read, Rest, at_front, in_turn, name_and_at, stuck, symbol_at, within,
+};
 use std::alloc::Global;
 
 /// The parameters of an operation, of which there may be none.
@@ -38,12 +40,12 @@ pub struct Operation<'a> {
 fn parameters_at<'a>(alloc: Global, most: usize, rest: Rest<'a>) -> Read<'a, Parameters<'a>>
     ensures { Gives parameters_names result (parameters_of most rest.entry.at (kinds rest.entry.tokens.now)) }
 {
-    match first(rest) {
-        Some((TokenKind::Name(name), after)) => within!(
-            Parameters::Some(name.as_slice(), others);
+    match at_front(rest) {
+        (Front::Name(name), after) => within!(
+            Parameters::Some(name, others);
             others = ended_list_at(alloc, most, after, Symbol::CloseParen)
         ),
-        Some((TokenKind::Symbol(Symbol::CloseParen), after)) => Ok((Parameters::None, after)),
+        (Front::Symbol(Symbol::CloseParen), after) => Ok((Parameters::None, after)),
         _ => Err(stuck(rest)),
     }
 }
@@ -52,19 +54,21 @@ fn parameters_at<'a>(alloc: Global, most: usize, rest: Rest<'a>) -> Read<'a, Par
 fn op_tail_at<'a>(alloc: Global, most: usize, rest: Rest<'a>) -> Read<'a, Operation<'a>>
     ensures { Gives operation_tree result (op_tail_of most rest.entry.at (kinds rest.entry.tokens.now)) }
 {
-    let (name, after) = name_and_at(rest, Symbol::OpenParen)?;
-    let (parameters, after) = parameters_at(alloc, most, after)?;
-    let after = symbol_at(after, Symbol::OpenBrace)?;
-    let (locals, after) = list_at(alloc, most, after)?;
-    within!(Operation { name, parameters, locals, body }; body = block_at(alloc, most, after))
+    in_turn!(
+        (name, after) = name_and_at(rest, Symbol::OpenParen);
+        (parameters, after) = parameters_at(alloc, most, after);
+        after = symbol_at(after, Symbol::OpenBrace);
+        (locals, after) = list_at(alloc, most, after);
+        within!(Operation { name, parameters, locals, body }; body = block_at(alloc, most, after))
+    )
 }
 
 /// An operation.
 pub fn op_at<'a>(alloc: Global, most: usize, rest: Rest<'a>) -> Read<'a, Operation<'a>>
     ensures { Gives operation_tree result (op_of most rest.entry.at (kinds rest.entry.tokens.now)) }
 {
-    match first(rest) {
-        Some((TokenKind::Word(Keyword::Op), after)) => op_tail_at(alloc, most, after),
+    match at_front(rest) {
+        (Front::Word(Keyword::Op), after) => op_tail_at(alloc, most, after),
         _ => Err(stuck(rest)),
     }
 }

@@ -10,9 +10,10 @@ ghost use Rattle.plc_tree.specs.Whole.{OutlineStops};
 use crate::clause::clause_at;
 use crate::form::{Item, Outline};
 use crate::list::ended_list_at;
-use plc_lex::{Keyword, Symbol, Token, TokenKind};
+use plc_lex::{Keyword, Symbol, Token};
 use plc_syntax::{
-    Fault, Read, Rest, depth_at, first, name_and_at, name_at, stuck, symbol_at, within, word_at,
+    Fault, Front, Read, Rest, at_front, depth_at, in_turn, name_and_at, name_at, stuck, symbol_at,
+    within, word_at,
 };
 use std::alloc::Global;
 
@@ -20,28 +21,32 @@ use std::alloc::Global;
 fn over_item_at<'a>(alloc: Global, most: usize, rest: Rest<'a>) -> Read<'a, Item<'a>>
     ensures { Gives item_tree result (over_of most rest.entry.at (kinds rest.entry.tokens.now)) }
 {
-    let (name, after) = name_and_at(rest, Symbol::Colon)?;
-    within!(Item::Over(name, clause); clause = clause_at(alloc, most, after))
+    in_turn!(
+        (name, after) = name_and_at(rest, Symbol::Colon);
+        within!(Item::Over(name, clause); clause = clause_at(alloc, most, after))
+    )
 }
 
 /// An item at labels, from after its word.
 fn at_item_at<'a>(alloc: Global, most: usize, rest: Rest<'a>) -> Read<'a, Item<'a>>
     ensures { Gives item_tree result (at_of most rest.entry.at (kinds rest.entry.tokens.now)) }
 {
-    let (name, after) = name_at(rest)?;
-    let (others, after) = ended_list_at(alloc, most, after, Symbol::Colon)?;
-    within!(Item::At(name, others, clause); clause = clause_at(alloc, most, after))
+    in_turn!(
+        (name, after) = name_at(rest);
+        (others, after) = ended_list_at(alloc, most, after, Symbol::Colon);
+        within!(Item::At(name, others, clause); clause = clause_at(alloc, most, after))
+    )
 }
 
 /// An item.
 pub fn item_at<'a>(alloc: Global, most: usize, rest: Rest<'a>) -> Read<'a, Item<'a>>
     ensures { Gives item_tree result (item_of most rest.entry.at (kinds rest.entry.tokens.now)) }
 {
-    match first(rest) {
-        Some((TokenKind::Word(Keyword::Inv), after)) =>
+    match at_front(rest) {
+        (Front::Word(Keyword::Inv), after) =>
             within!(Item::Invariant(clause); clause = clause_at(alloc, most, after)),
-        Some((TokenKind::Word(Keyword::Over), after)) => over_item_at(alloc, most, after),
-        Some((TokenKind::Word(Keyword::At), after)) => at_item_at(alloc, most, after),
+        (Front::Word(Keyword::Over), after) => over_item_at(alloc, most, after),
+        (Front::Word(Keyword::At), after) => at_item_at(alloc, most, after),
         _ => Err(stuck(rest)),
     }
 }
@@ -50,11 +55,13 @@ pub fn item_at<'a>(alloc: Global, most: usize, rest: Rest<'a>) -> Read<'a, Item<
 fn outline_tail_at<'a>(alloc: Global, most: usize, rest: Rest<'a>) -> Read<'a, Outline<'a>>
     ensures { Gives outline_tree result (outline_tail_of most rest.entry.at (kinds rest.entry.tokens.now)) }
 {
-    let after = symbol_at(rest, Symbol::OpenBrace)?;
-    let (depth, after) = depth_at(after)?;
-    within!(
-        Outline { depth, items };
-        items = ended_list_at(alloc, most, after, Symbol::CloseBrace)
+    in_turn!(
+        after = symbol_at(rest, Symbol::OpenBrace);
+        (depth, after) = depth_at(after);
+        within!(
+            Outline { depth, items };
+            items = ended_list_at(alloc, most, after, Symbol::CloseBrace)
+        )
     )
 }
 
@@ -62,7 +69,7 @@ fn outline_tail_at<'a>(alloc: Global, most: usize, rest: Rest<'a>) -> Read<'a, O
 fn outline_at<'a>(alloc: Global, most: usize, rest: Rest<'a>) -> Read<'a, Outline<'a>>
     ensures { Gives outline_tree result (outline_of most rest.entry.at (kinds rest.entry.tokens.now)) }
 {
-    outline_tail_at(alloc, most, word_at(rest, Keyword::Outline)?)
+    in_turn!(after = word_at(rest, Keyword::Outline); outline_tail_at(alloc, most, after))
 }
 
 /// The outline at the front of tokens, and the tokens after its closing brace, whatever they are. Where
@@ -86,8 +93,8 @@ pub fn outline_tree<'a>(
 pub fn outlined_at<'a>(alloc: Global, most: usize, rest: Rest<'a>) -> Read<'a, Option<Outline<'a>>>
     ensures { Gives outlined_tree result (outlined_of most rest.entry.at (kinds rest.entry.tokens.now)) }
 {
-    match first(rest) {
-        Some((TokenKind::Word(Keyword::Outline), after)) =>
+    match at_front(rest) {
+        (Front::Word(Keyword::Outline), after) =>
             within!(Some(outline); outline = outline_tail_at(alloc, most, after)),
         _ => Ok((None, rest)),
     }

@@ -7,10 +7,10 @@ ghost use Rattle.plc_tree.specs.Views.{statement_tree};
 
 use crate::list::braced_list_at;
 use crate::tree::Stmt;
-use plc_lex::{Symbol, TokenKind};
+use plc_lex::Symbol;
 use plc_syntax::{
-    Condition, Read, Rest, argument_at, condition_at, during_at, first, name_and_at, named_tail_at,
-    primitive_line_at, symbol_at, within,
+    Condition, Front, Read, Rest, argument_at, at_front, condition_at, during_at, in_turn,
+    name_and_at, named_tail_at, primitive_line_at, symbol_at, within,
 };
 use std::alloc::Global;
 
@@ -18,9 +18,11 @@ use std::alloc::Global;
 fn call_at<'a>(name: &'a [u8], rest: Rest<'a>) -> Read<'a, Stmt<'a>>
     ensures { Gives statement_tree result (call_of name.now rest.entry.at (kinds rest.entry.tokens.now)) }
 {
-    let (argument, after) = argument_at(rest)?;
-    let after = symbol_at(after, Symbol::CloseParen)?;
-    within!(Stmt::Call { name, argument, during }; during = during_at(after), Semicolon)
+    in_turn!(
+        (argument, after) = argument_at(rest);
+        after = symbol_at(after, Symbol::CloseParen);
+        within!(Stmt::Call { name, argument, during }; during = during_at(after), Semicolon)
+    )
 }
 
 /// A call or a primitive, from after the name with which it begins.
@@ -28,10 +30,10 @@ pub fn named_statement_at<'a>(name: &'a [u8], rest: Rest<'a>) -> Read<'a, Stmt<'
     ensures { Gives statement_tree result
         (named_statement_of name.now rest.entry.at (kinds rest.entry.tokens.now)) }
 {
-    if let Some((TokenKind::Symbol(Symbol::OpenParen), after)) = first(rest) {
-        return call_at(name, after);
+    match at_front(rest) {
+        (Front::Symbol(Symbol::OpenParen), after) => call_at(name, after),
+        _ => within!(Stmt::Primitive(primitive); primitive = named_tail_at(name, rest), Semicolon),
     }
-    within!(Stmt::Primitive(primitive); primitive = named_tail_at(name, rest), Semicolon)
 }
 
 /// An atomic block, from after its word; at most so many primitives.
@@ -46,7 +48,7 @@ pub fn ended_at<'a>(stmt: Stmt<'a>, rest: Rest<'a>) -> Read<'a, Stmt<'a>>
     ensures { Gives statement_tree result
         (ended_of (statement_tree stmt.entry) rest.entry.at (kinds rest.entry.tokens.now)) }
 {
-    Ok((stmt, symbol_at(rest, Symbol::Semicolon)?))
+    in_turn!(after = symbol_at(rest, Symbol::Semicolon); Ok((stmt, after)))
 }
 
 /// A label, from after its word.
@@ -60,8 +62,10 @@ pub fn label_at<'a>(rest: Rest<'a>) -> Read<'a, Stmt<'a>>
 pub fn guard_at<'a>(rest: Rest<'a>) -> Read<'a, Condition<'a>>
     ensures { Gives condition_tree result (guard_of rest.entry.at (kinds rest.entry.tokens.now)) }
 {
-    let after = symbol_at(rest, Symbol::OpenParen)?;
-    within!(condition; condition = condition_at(after), CloseParen)
+    in_turn!(
+        after = symbol_at(rest, Symbol::OpenParen);
+        within!(condition; condition = condition_at(after), CloseParen)
+    )
 }
 
 /// A primitive as a statement.
