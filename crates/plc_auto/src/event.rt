@@ -20,7 +20,7 @@ pub enum Event {
 }
 
 /// An event without its thread and address.
-#[derive(Clone, Copy)]
+#[derive(Clone, Copy, PartialEq, Eq)]
 pub enum EvKind {
     Call(FuncId),
     Done(FuncId),
