@@ -9,7 +9,7 @@ ghost use Rattle.plc_auto.specs.Locations.{is_named};
 use plc_base::FuncId;
 
 /// One thing that an observer hears.
-#[derive(Clone, Copy, Debug, PartialEq, Eq)]
+#[derive(Clone, Copy)]
 pub enum Event {
     /// Thread `t` calls `f`, with an address, with null (the number 0), or without a pointer.
     Call { t: u32, f: FuncId, a: Option<u32> },
@@ -20,7 +20,7 @@ pub enum Event {
 }
 
 /// An event without its thread and address.
-#[derive(Clone, Copy, Debug, PartialEq, Eq)]
+#[derive(Clone, Copy, PartialEq, Eq)]
 pub enum EvKind {
     Call(FuncId),
     Done(FuncId),

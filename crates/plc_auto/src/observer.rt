@@ -10,7 +10,7 @@ use crate::table::{epoch_name, epoch_step, hazard_name, hazard_step, plain_name,
 use plc_base::{FuncId, LocId};
 
 /// When a reclaimer may free.
-#[derive(Clone, Copy, Debug, PartialEq, Eq)]
+#[derive(Clone, Copy, Debug)]
 pub enum Observer {
     /// Each address once after each retirement.
     Plain,

@@ -7,7 +7,7 @@ use plc_base::{FuncId, Items, NoMemory};
 use std::alloc::Global;
 
 /// A scheme by which a file's threads say what they still use.
-#[derive(Clone, Copy, PartialEq, Eq)]
+#[derive(Clone, Copy)]
 pub enum Scheme {
     /// Hazard pointers: a thread protects the address with which it calls this function.
     Hazard { f: FuncId },

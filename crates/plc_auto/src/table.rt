@@ -3,7 +3,7 @@
 // fits the location stays. `None` stands for the location `bad`, which is never left.
 ghost use Rattle.std.specs.Prelude.{◌≡◌, ◌<◌, length, get_or, []};
 ghost use Rattle.plc_auto.specs.Table.{plain_names, hazard_names, epoch_names, plain_edges};
-ghost use Rattle.plc_auto.specs.Table.{hazard_edges, epoch_edges, along, bears, target_of};
+ghost use Rattle.plc_auto.specs.Table.{hazard_edges, epoch_edges, along, bears, borne, Label, target_of};
 ghost use Rattle.plc_auto.specs.declared.observer.Observer.{Observer};
 
 use crate::event::EvKind;
@@ -82,31 +82,136 @@ pub fn plain_step(at: LocId, kind: EvKind, own: bool, this: bool) -> Option<LocI
     }
 }
 
+/// Which labels of edges an event bears.
+#[derive(Clone, Copy)]
+struct Labels {
+    asks: bool,
+    granted: bool,
+    gives_up: bool,
+    retires: bool,
+    frees: bool,
+}
+
+/// The labels of an event in the table of `hazard(f)`.
+fn hazard_labels(f: FuncId, kind: EvKind) -> Labels
+    ensures { (l : Label) → borne result l ≡ bears (Observer.Hazard f) kind l }
+{
+    match kind {
+        EvKind::Call(g) => Labels {
+            asks: g == f,
+            granted: false,
+            gives_up: false,
+            retires: g.is_retire(),
+            frees: false,
+        },
+        EvKind::Done(g) => Labels {
+            asks: false,
+            granted: g == f,
+            gives_up: false,
+            retires: false,
+            frees: false,
+        },
+        EvKind::Free => Labels {
+            asks: false,
+            granted: false,
+            gives_up: false,
+            retires: false,
+            frees: true,
+        },
+    }
+}
+
+/// The labels of an event in the table of `epoch(e, l)`.
+fn epoch_labels(enter: FuncId, leave: FuncId, kind: EvKind) -> Labels
+    ensures { (l : Label) → borne result l ≡ bears (Observer.Epoch enter leave) kind l }
+{
+    match kind {
+        EvKind::Call(g) => Labels {
+            asks: g == enter,
+            granted: false,
+            gives_up: g == leave,
+            retires: g.is_retire(),
+            frees: false,
+        },
+        EvKind::Done(g) => Labels {
+            asks: false,
+            granted: g == enter,
+            gives_up: false,
+            retires: false,
+            frees: false,
+        },
+        EvKind::Free => Labels {
+            asks: false,
+            granted: false,
+            gives_up: false,
+            retires: false,
+            frees: true,
+        },
+    }
+}
+
+/// Where an event with these labels leads from a location of `hazard(f)`. Each guard is one value, by `&`, since each
+/// way through it is proved apart.
+fn hazard_edge(at: LocId, event: Labels, own: bool, this: bool) -> Option<LocId>
+    ensures { target_of result ≡ along (borne event) own this at.0 hazard_edges }
+{
+    match at.0 {
+        U_NONE if event.asks & (own & this) => Some(LocId(U_ASKED)),
+        U_NONE if event.retires & this => Some(LocId(R_NONE)),
+        U_NONE if event.frees & this => None,
+        U_ASKED if event.asks & (own & !this) => Some(LocId(U_NONE)),
+        U_ASKED if event.granted & own => Some(LocId(U_GRANTED)),
+        U_ASKED if event.retires & this => Some(LocId(R_ASKED)),
+        U_ASKED if event.frees & this => None,
+        U_GRANTED if event.asks & (own & !this) => Some(LocId(U_NONE)),
+        U_GRANTED if event.retires & this => Some(LocId(R_KEPT)),
+        U_GRANTED if event.frees & this => None,
+        R_NONE if event.asks & (own & this) => Some(LocId(R_ASKED)),
+        R_NONE if event.frees & this => Some(LocId(U_NONE)),
+        R_ASKED if event.asks & (own & !this) => Some(LocId(R_NONE)),
+        R_ASKED if event.granted & own => Some(LocId(R_GRANTED)),
+        R_ASKED if event.frees & this => Some(LocId(U_ASKED)),
+        R_GRANTED if event.asks & (own & !this) => Some(LocId(R_NONE)),
+        R_GRANTED if event.retires & this => Some(LocId(R_KEPT)),
+        R_GRANTED if event.frees & this => Some(LocId(U_GRANTED)),
+        R_KEPT if event.asks & (own & !this) => Some(LocId(R_NONE)),
+        R_KEPT if event.frees & this => None,
+        _ => Some(at),
+    }
+}
+
 /// Where an event leads from a location of `hazard(f)`; `None` where it is no event that the observer allows.
 pub fn hazard_step(f: FuncId, at: LocId, kind: EvKind, own: bool, this: bool) -> Option<LocId>
     ensures { target_of result ≡ along (bears (Observer.Hazard f) kind) own this at.0 hazard_edges }
 {
-    match (at.0, kind) {
-        (U_NONE, EvKind::Call(g)) if g == f && own && this => Some(LocId(U_ASKED)),
-        (U_NONE, EvKind::Call(g)) if g.is_retire() && this => Some(LocId(R_NONE)),
-        (U_NONE, EvKind::Free) if this => None,
-        (U_ASKED, EvKind::Call(g)) if g == f && own && !this => Some(LocId(U_NONE)),
-        (U_ASKED, EvKind::Done(g)) if g == f && own => Some(LocId(U_GRANTED)),
-        (U_ASKED, EvKind::Call(g)) if g.is_retire() && this => Some(LocId(R_ASKED)),
-        (U_ASKED, EvKind::Free) if this => None,
-        (U_GRANTED, EvKind::Call(g)) if g == f && own && !this => Some(LocId(U_NONE)),
-        (U_GRANTED, EvKind::Call(g)) if g.is_retire() && this => Some(LocId(R_KEPT)),
-        (U_GRANTED, EvKind::Free) if this => None,
-        (R_NONE, EvKind::Call(g)) if g == f && own && this => Some(LocId(R_ASKED)),
-        (R_NONE, EvKind::Free) if this => Some(LocId(U_NONE)),
-        (R_ASKED, EvKind::Call(g)) if g == f && own && !this => Some(LocId(R_NONE)),
-        (R_ASKED, EvKind::Done(g)) if g == f && own => Some(LocId(R_GRANTED)),
-        (R_ASKED, EvKind::Free) if this => Some(LocId(U_ASKED)),
-        (R_GRANTED, EvKind::Call(g)) if g == f && own && !this => Some(LocId(R_NONE)),
-        (R_GRANTED, EvKind::Call(g)) if g.is_retire() && this => Some(LocId(R_KEPT)),
-        (R_GRANTED, EvKind::Free) if this => Some(LocId(U_GRANTED)),
-        (R_KEPT, EvKind::Call(g)) if g == f && own && !this => Some(LocId(R_NONE)),
-        (R_KEPT, EvKind::Free) if this => None,
+    hazard_edge(at, hazard_labels(f, kind), own, this)
+}
+
+/// Where an event with these labels leads from a location of `epoch(e, l)`.
+fn epoch_edge(at: LocId, event: Labels, own: bool, this: bool) -> Option<LocId>
+    ensures { target_of result ≡ along (borne event) own this at.0 epoch_edges }
+{
+    match at.0 {
+        U_NONE if event.asks & own => Some(LocId(U_ASKED)),
+        U_NONE if event.retires & this => Some(LocId(R_NONE)),
+        U_NONE if event.frees & this => None,
+        U_ASKED if event.granted & own => Some(LocId(U_GRANTED)),
+        U_ASKED if event.gives_up & own => Some(LocId(U_NONE)),
+        U_ASKED if event.retires & this => Some(LocId(R_ASKED)),
+        U_ASKED if event.frees & this => None,
+        U_GRANTED if event.gives_up & own => Some(LocId(U_NONE)),
+        U_GRANTED if event.retires & this => Some(LocId(R_KEPT)),
+        U_GRANTED if event.frees & this => None,
+        R_NONE if event.asks & own => Some(LocId(R_ASKED)),
+        R_NONE if event.frees & this => Some(LocId(U_NONE)),
+        R_ASKED if event.granted & own => Some(LocId(R_GRANTED)),
+        R_ASKED if event.gives_up & own => Some(LocId(R_NONE)),
+        R_ASKED if event.frees & this => Some(LocId(U_ASKED)),
+        R_GRANTED if event.gives_up & own => Some(LocId(R_NONE)),
+        R_GRANTED if event.retires & this => Some(LocId(R_KEPT)),
+        R_GRANTED if event.frees & this => Some(LocId(U_GRANTED)),
+        R_KEPT if event.gives_up & own => Some(LocId(R_NONE)),
+        R_KEPT if event.frees & this => None,
         _ => Some(at),
     }
 }
@@ -122,27 +227,5 @@ pub fn epoch_step(
 ) -> Option<LocId>
     ensures { target_of result ≡ along (bears (Observer.Epoch enter leave) kind) own this at.0 epoch_edges }
 {
-    match (at.0, kind) {
-        (U_NONE, EvKind::Call(g)) if g == enter && own => Some(LocId(U_ASKED)),
-        (U_NONE, EvKind::Call(g)) if g.is_retire() && this => Some(LocId(R_NONE)),
-        (U_NONE, EvKind::Free) if this => None,
-        (U_ASKED, EvKind::Done(g)) if g == enter && own => Some(LocId(U_GRANTED)),
-        (U_ASKED, EvKind::Call(g)) if g == leave && own => Some(LocId(U_NONE)),
-        (U_ASKED, EvKind::Call(g)) if g.is_retire() && this => Some(LocId(R_ASKED)),
-        (U_ASKED, EvKind::Free) if this => None,
-        (U_GRANTED, EvKind::Call(g)) if g == leave && own => Some(LocId(U_NONE)),
-        (U_GRANTED, EvKind::Call(g)) if g.is_retire() && this => Some(LocId(R_KEPT)),
-        (U_GRANTED, EvKind::Free) if this => None,
-        (R_NONE, EvKind::Call(g)) if g == enter && own => Some(LocId(R_ASKED)),
-        (R_NONE, EvKind::Free) if this => Some(LocId(U_NONE)),
-        (R_ASKED, EvKind::Done(g)) if g == enter && own => Some(LocId(R_GRANTED)),
-        (R_ASKED, EvKind::Call(g)) if g == leave && own => Some(LocId(R_NONE)),
-        (R_ASKED, EvKind::Free) if this => Some(LocId(U_ASKED)),
-        (R_GRANTED, EvKind::Call(g)) if g == leave && own => Some(LocId(R_NONE)),
-        (R_GRANTED, EvKind::Call(g)) if g.is_retire() && this => Some(LocId(R_KEPT)),
-        (R_GRANTED, EvKind::Free) if this => Some(LocId(U_GRANTED)),
-        (R_KEPT, EvKind::Call(g)) if g == leave && own => Some(LocId(R_NONE)),
-        (R_KEPT, EvKind::Free) if this => None,
-        _ => Some(at),
-    }
+    epoch_edge(at, epoch_labels(enter, leave, kind), own, this)
 }
