@@ -1,5 +1,5 @@
-use Rattle.plc_base.proofs.Hints.{kept_none}
+use Rattle.plc_base.proofs.Places.{kept_none}
 use Rattle.plc_base.proofs.names.Names.new.Goals as goal
 
 pub invariant_of-result : goal.invariant_of-result
-invariant_of-result c = rw c.new.ensures.items (kept_none _ c.args.limit)
+invariant_of-result c = rw c.new.ensures.items (kept_none c.new-2.result c.args.limit c.new-2.ensures.empty)
