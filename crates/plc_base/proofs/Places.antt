@@ -38,7 +38,7 @@ pub place_within : (name : List ℕ) (names : List (List ℕ)) (at : ℕ) → So
 place_within name names at is = (position-Some (bytes_eq name) names at [] (sym is)).0
 
 module _ {A S : Type 0} where
-  -- where a map from vectors leads from a name
+  -- the place to which a map leads from a name
   abbrev place_in : HashMap (Vec ℕ A) ℕ S → List ℕ → Option ℕ
   place_in places name = get_by (λ v. bytes_eq name v.items) places
 
@@ -46,6 +46,7 @@ module _ {A S : Type 0} where
   unfolding IsDistinct
   kept_none places limit none = record { unique = tt; bound = omega arith; found = λ name. ap (λ (es : List (Vec ℕ A × ℕ)). lookup (λ v. bytes_eq name v.items) es) none }
 
+  -- where a map leads after a change at a key
   place_update : (old new : HashMap (Vec ℕ A) ℕ S) (key : Vec ℕ A) (place : Option ℕ) → UpdatesBy (λ a b. bytes_eq a.items b.items) (λ v. bytes_eq key.items v.items) old new place
       → (other : List ℕ) → place_in new other ≡ cond (bytes_eq key.items other) place (place_in old other)
   unfolding KeepsOthers
