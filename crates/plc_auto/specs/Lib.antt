@@ -9,4 +9,5 @@ pub mod Waiting
 pub mod Locations
 pub mod Following
 -- words of private functions alone
+pub mod Borne
 pub mod Moves

@@ -8,7 +8,6 @@ use Rattle.plc_auto.specs.declared.event.EvKind.{EvKind}
 use Rattle.plc_auto.specs.declared.event.EvKind.TheVariants.{Call, Done, Free}
 use Rattle.plc_auto.specs.declared.observer.Observer.{Observer}
 use Rattle.plc_auto.specs.declared.observer.Observer.TheVariants.{Plain, Hazard, Epoch}
-use Rattle.plc_auto.specs.declared.table.Labels.{Labels}
 
 -- what an edge waits for: a call of `retire`, the call that asks for protection, its return, the call that
 -- gives it up, a free
@@ -190,14 +189,6 @@ bears o Free retires = false
 bears o Free asks = false
 bears o Free granted = false
 bears o Free gives_up = false
-
--- the same of labels that were found before
-abbrev pub borne : Labels → Label → Bool
-borne found retires = found.retires
-borne found asks = found.asks
-borne found granted = found.granted
-borne found gives_up = found.gives_up
-borne found frees = found.frees
 
 -- a guard on the thread
 abbrev pub thread_fits : ThreadGuard → Bool → Bool

@@ -3,7 +3,8 @@
 // fits the location stays. `None` stands for the location `bad`, which is never left.
 ghost use Rattle.std.specs.Prelude.{◌≡◌, ◌<◌, length, get_or, []};
 ghost use Rattle.plc_auto.specs.Table.{plain_names, hazard_names, epoch_names, plain_edges};
-ghost use Rattle.plc_auto.specs.Table.{hazard_edges, epoch_edges, along, bears, borne, Label, target_of};
+ghost use Rattle.plc_auto.specs.Table.{hazard_edges, epoch_edges, along, bears, Label, target_of};
+ghost use Rattle.plc_auto.specs.Borne.{borne};
 ghost use Rattle.plc_auto.specs.declared.observer.Observer.{Observer};
 
 use crate::event::EvKind;
