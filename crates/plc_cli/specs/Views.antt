@@ -1,5 +1,5 @@
 -- What the program's requests and a file that was loaded stand for.
-use Rattle.std.specs.Prelude.{◌≡◌, ◌⊎◌, ℕ, ◌<◌, ◌≤◌, List, [], ◌∷◌, All}
+use Rattle.std.specs.Prelude.{◌≡◌, ◌⊎◌, ℕ, ◌<◌, ◌≤◌, List, All}
 use Rattle.plc_base.specs.Limits.{most_copies}
 use Rattle.plc_lex.specs.declared.token.Token.{Token}
 use Rattle.plc_lex.specs.Spelling.{AreTokensOf}
@@ -10,11 +10,14 @@ use Rattle.plc_parse.specs.declared.unit.Unit.{Unit as FileUnit}
 use Rattle.plc_check.specs.declared.judged.Judged.{Judged}
 use Rattle.plc_texts.specs.Claims.{claim_fault_text}
 use Rattle.plc_sample.specs.Numbers.{sample_lines}
+use Rattle.plc_setting.specs.Fit.{Fits}
+use Rattle.plc_cli.specs.declared.locating.Extension.{Extension}
+use Rattle.plc_cli.specs.declared.locating.Extension.TheVariants.{Extended, Answered}
 use Rattle.plc_cli.specs.declared.locating.ReadClaims.{ReadClaims}
 use Rattle.plc_cli.specs.declared.locating.ReadClaims.TheVariants.{Claims, Refused}
 use Rattle.plc_cli.specs.declared.words.Request.{Request as Asked}
 use Rattle.plc_cli.specs.declared.words.Request.TheVariants as asked
-use Rattle.plc_cli.specs.Locations.{AreNoTokens, AreNoClaims}
+use Rattle.plc_cli.specs.Locations.{AreNoTokens, AreNoClaims, IsAnsweredWith}
 use Rattle.plc_cli.specs.Requests.{Request, Check, Certify, Print, Verify, Replay, Sample, Suggest, Locate}
 use Rattle.plc_cli.specs.Statuses.{refused}
 
@@ -71,3 +74,10 @@ abbrev pub AreReadClaims : Judged → List ℕ → ReadClaims → Type 0
 AreReadClaims j second (Claims claims) = SpellFittingClaims j second claims
 AreReadClaims j second (Refused answer) =
     AreNoTokens second answer.status answer.text.items ⊎ AreNoClaims j second answer.status answer.text.items
+
+-- what is due: for claims with an outline, whatever they are answered by it and what is judged now; else the answer
+abbrev pub IsExtension : (ℕ → List ℕ → Type 0) → Judged → Extension → Type 0
+IsExtension IsDue now (Extended claims outline) =
+    Fits now.flow outline
+    × ((status : ℕ) (text : List ℕ) → IsAnsweredWith now outline claims status text → IsDue status text)
+IsExtension IsDue now (Answered answer) = IsDue answer.status answer.text.items

@@ -15,7 +15,7 @@ ghost use Rattle.plc_cli.specs.Files.{IsTold};
 ghost use Rattle.plc_cli.specs.Locations.{located_verdict_text, IsAnsweredWith, AreClaimsAnswered, IsLocationAnswered};
 ghost use Rattle.plc_cli.specs.Statuses.{fails, refused};
 ghost use Rattle.plc_cli.specs.Verdicts.{verdict_status};
-ghost use Rattle.plc_cli.specs.Views.{AreReadClaims, AreReadTokens};
+ghost use Rattle.plc_cli.specs.Views.{AreReadClaims, AreReadTokens, IsExtension};
 ghost use Rattle.plc_cli.specs.declared.locating.ReadClaims.TheVariants.{Refused};
 
 use crate::answer::{Answer, refuse};
@@ -66,15 +66,29 @@ fn located_answer(
     })
 }
 
+/// The answer to claims for what is lent, by the verdict on it.
+fn verdict_on_claims(
+    alloc: Global,
+    judged: &Judged,
+    claims: &[LocationClaim],
+) -> Result<Answer, NoMemory>
+    requires { Fits judged.now.flow judged.now.unit_outline }
+    ensures { IfOk result (λ answer. IsTold (IsVerdictOn judged.now) verdict_status
+        (located_verdict_text judged.now claims.now) answer.status answer.text.items) }
+{
+    let verdict = check(alloc, judged)?;
+    let answer = located_answer(alloc, judged, claims, &verdict);
+    drop(verdict);
+    answer
+}
+
 /// The answer to claims for a file with an outline that says what they need.
 fn judge_claims(alloc: Global, judged: Judged, claims: &[LocationClaim]) -> Result<Answer, NoMemory>
     requires { Fits judged.flow judged.unit_outline }
     ensures { IfOk result (λ answer. IsTold (IsVerdictOn judged) verdict_status
         (located_verdict_text judged claims.now) answer.status answer.text.items) }
 {
-    let verdict = check(alloc, &judged)?;
-    let answer = located_answer(alloc, &judged, claims, &verdict);
-    drop(verdict);
+    let answer = verdict_on_claims(alloc, &judged, claims);
     drop(judged);
     answer
 }
@@ -122,28 +136,6 @@ fn no_outline(alloc: Global) -> Outline {
     }
 }
 
-/// The answer to claims under the strongest typing.
-fn answer_typed(
-    alloc: Global,
-    mut judged: Judged,
-    claims: &[LocationClaim],
-    typing: &[Env],
-) -> Result<Answer, NoMemory>
-    requires fits { Fits judged.flow judged.unit_outline }
-    requires claims { All (ClaimFits judged.flow) claims.now }
-    requires typing { IsStrongestTyping judged typing.now }
-    ensures { IfOk result (λ answer.
-        AreClaimsAnswered judged claims.now answer.status answer.text.items) }
-{
-    let own = mem::replace(&mut judged.unit_outline, no_outline(alloc));
-    match extend(alloc, claims, &judged.flow, &judged.observer, typing, own) {
-        Ok(outline) => answer_with(alloc, judged, outline, claims),
-        Err(AtFault::Unlocated { claim }) => unlocated_answer(alloc, claim),
-        Err(AtFault::Items { count }) => limit_answer(alloc, What1::Items, count),
-        Err(AtFault::Memory) => Err(NoMemory),
-    }
-}
-
 /// The answer to a file that has no typing.
 fn untyped_answer(
     alloc: Global,
@@ -159,21 +151,65 @@ fn untyped_answer(
     })
 }
 
-/// The answer to claims that were read.
-fn answer_claims(
+/// What bytes come to before a verdict.
+#[derive(Drop)]
+enum Extension {
+    /// The claims that they spell, and the outline that says what these need.
+    Extended {
+        claims: Items<LocationClaim>,
+        outline: Outline,
+    },
+    /// The answer where there is no such outline.
+    Answered(Answer),
+}
+
+/// What claims come to under the strongest typing. What is judged has no outline of its own then.
+fn extension_under(
     alloc: Global,
-    judged: Judged,
-    claims: &[LocationClaim],
-) -> Result<Answer, NoMemory>
-    requires fits { Fits judged.flow judged.unit_outline }
-    requires claims { All (ClaimFits judged.flow) claims.now }
-    ensures { IfOk result (λ answer.
-        AreClaimsAnswered judged claims.now answer.status answer.text.items) }
+    judged: &mut Judged,
+    claims: Items<LocationClaim>,
+    typing: &[Env],
+) -> Result<Extension, NoMemory>
+    requires fits { Fits judged.old.flow judged.old.unit_outline }
+    requires claims { All (ClaimFits judged.old.flow) claims }
+    requires typing { IsStrongestTyping judged.old typing.now }
+    ensures { IfOk result (IsExtension (AreClaimsAnswered judged.old claims) judged.new) }
 {
-    match strongest_typing(alloc, &judged)? {
-        Typed::Typing(typing) => answer_typed(alloc, judged, claims, typing.env.as_slice()),
+    let own = mem::replace(&mut judged.unit_outline, no_outline(alloc));
+    match extend(
+        alloc,
+        claims.as_slice(),
+        &judged.flow,
+        &judged.observer,
+        typing,
+        own,
+    ) {
+        Ok(outline) => Ok(Extension::Extended { claims, outline }),
+        Err(AtFault::Unlocated { claim }) => {
+            Ok(Extension::Answered(unlocated_answer(alloc, claim)?))
+        }
+        Err(AtFault::Items { count }) => {
+            Ok(Extension::Answered(limit_answer(alloc, What1::Items, count)?))
+        }
+        Err(AtFault::Memory) => Err(NoMemory),
+    }
+}
+
+/// What claims that were read come to.
+fn extension_by(
+    alloc: Global,
+    judged: &mut Judged,
+    claims: Items<LocationClaim>,
+) -> Result<Extension, NoMemory>
+    requires fits { Fits judged.old.flow judged.old.unit_outline }
+    requires claims { All (ClaimFits judged.old.flow) claims }
+    ensures { IfOk result (IsExtension (AreClaimsAnswered judged.old claims) judged.new) }
+{
+    match strongest_typing(alloc, judged)? {
+        Typed::Typing(typing) => extension_under(alloc, judged, claims, typing.env.as_slice()),
         Typed::Untyped { step, prim, fault } => {
-            untyped_answer(alloc, &judged, FailedCondition { step, prim, fault })
+            let failed = FailedCondition { step, prim, fault };
+            Ok(Extension::Answered(untyped_answer(alloc, judged, failed)?))
         }
     }
 }
@@ -220,6 +256,18 @@ fn claims_of(alloc: Global, judged: &Judged, bytes: &[u8]) -> Result<ReadClaims,
     }
 }
 
+/// What bytes come to for a file.
+fn extension_of(alloc: Global, judged: &mut Judged, bytes: &[u8]) -> Result<Extension, NoMemory>
+    requires fits { Fits judged.old.flow judged.old.unit_outline }
+    requires short { length bytes.now ≤ largest_file }
+    ensures { IfOk result (IsExtension (IsLocationAnswered judged.old bytes.now) judged.new) }
+{
+    match claims_of(alloc, judged, bytes)? {
+        ReadClaims::Claims(claims) => extension_by(alloc, judged, claims),
+        ReadClaims::Refused(answer) => Ok(Extension::Answered(answer)),
+    }
+}
+
 /// The question whether the bytes of a second file are claims that are true for a file.
 pub(crate) struct ForLocations;
 
@@ -228,10 +276,19 @@ impl PairQuestion for ForLocations {
 
     ghost due = { λ _ judged second. IsLocationAnswered judged second };
 
-    fn answer(&self, alloc: Global, judged: Judged, second: &[u8]) -> Result<Answer, NoMemory> {
-        match claims_of(alloc, &judged, second)? {
-            ReadClaims::Claims(claims) => answer_claims(alloc, judged, claims.as_slice()),
-            ReadClaims::Refused(answer) => Ok(answer),
+    fn answer(&self, alloc: Global, mut judged: Judged, second: &[u8]) -> Result<Answer, NoMemory> {
+        match extension_of(alloc, &mut judged, second) {
+            Ok(Extension::Extended { claims, outline }) => {
+                answer_with(alloc, judged, outline, claims.as_slice())
+            }
+            Ok(Extension::Answered(answer)) => {
+                drop(judged);
+                Ok(answer)
+            }
+            Err(NoMemory) => {
+                drop(judged);
+                Err(NoMemory)
+            }
         }
     }
 }
