@@ -2,8 +2,9 @@
 // that is due. A certificate is any valid one, so each change puts whole parts in the place of its own.
 use crate::tests::files::{PUBLISHED, text_of};
 use crate::tests::program::{answer_over, text_over};
-use crate::tests::texts::{halves, note, on_one_line, text_is};
+use crate::tests::texts::{halves, on_one_line, text_is};
 use std::alloc::{AllocError, Global};
+use std::process::Abort;
 
 // The certificate of a file's text, and no text where it has none.
 fn certificate(alloc: Global, file: &str) -> Result<String, AllocError> {
@@ -43,7 +44,7 @@ fn verified_of(alloc: Global, name: &str, other: &str) -> Result<String, AllocEr
 }
 
 #[test]
-fn what_is_certified_is_verified(rt: HostRuntime) -> Result<(), AllocError> {
+fn what_is_certified_is_verified(rt: HostRuntime) {
     for row in &[
         (
             "hazards",
@@ -69,9 +70,8 @@ fn what_is_certified_is_verified(rt: HostRuntime) -> Result<(), AllocError> {
         ),
     ] {
         let (name, want) = *row;
-        text_is(&rt, verified_of(rt.alloc(), name, name), want, name)?;
+        text_is(&rt, verified_of(rt.alloc(), name, name), want, name);
     }
-    Ok(())
 }
 
 /// A certificate of `marked-link` without a typing: any address may stand anywhere.
@@ -115,10 +115,10 @@ fn certificate_line(alloc: Global, name: &str) -> Result<String, AllocError> {
 }
 
 #[test]
-fn certificates_from_elsewhere_are_judged(rt: HostRuntime) -> Result<(), AllocError> {
+fn certificates_from_elsewhere_are_judged(rt: HostRuntime) {
     for row in WRITTEN {
         let (name, certificate, want) = *row;
-        text_is(&rt, verified(rt.alloc(), name, certificate), want, name)?;
+        text_is(&rt, verified(rt.alloc(), name, certificate), want, name);
     }
     // There is no other one with the strongest typing.
     text_is(
@@ -126,7 +126,7 @@ fn certificates_from_elsewhere_are_judged(rt: HostRuntime) -> Result<(), AllocEr
         certificate_line(rt.alloc(), "publish"),
         PUBLISHED,
         "publish",
-    )
+    );
 }
 
 // Changes of any certificate: the first place where a text stands has another one; then the answer.
@@ -187,64 +187,37 @@ fn verified_text(
     verified_line(alloc, name, changed.as_str())
 }
 
-// Notes the answer to a certificate that is changed by a row, where it isn't the row's.
-fn note_text(
-    alloc: Global,
-    wrong: &mut String,
-    name: &str,
-    certificate: &str,
-    row: &str,
-) -> Result<(), AllocError> {
+// Fails where the answer to a certificate that is changed by a row isn't the row's. Both end with their line.
+fn text_has(rt: &impl Abort, alloc: Global, name: &str, certificate: &str, row: &str) {
     let (found, rest) = halves(row, " => ");
     let (text, want) = halves(rest, " => ");
-    let have = verified_text(alloc, name, certificate, found, text)?;
-    note(
-        wrong,
-        row,
-        have.as_str().strip_suffix("\n").unwrap_or(""),
+    text_is(
+        rt,
+        verified_text(alloc, name, certificate, found, text),
         want,
-    )
+        row,
+    );
 }
 
 // The same of several rows.
-fn note_texts(
-    alloc: Global,
-    wrong: &mut String,
-    name: &str,
-    certificate: &str,
-    rows: &str,
-) -> Result<(), AllocError> {
-    for row in rows.lines() {
-        note_text(alloc, wrong, name, certificate, row)?;
+fn texts_have(rt: &impl Abort, alloc: Global, name: &str, certificate: &str, rows: &str) {
+    for row in rows.split_inclusive("\n") {
+        text_has(rt, alloc, name, certificate, row);
     }
-    Ok(())
 }
 
 // The changes for any certificate, then those for this one.
-fn note_texts_of(
-    alloc: Global,
-    wrong: &mut String,
-    name: &str,
-    changes: &str,
-) -> Result<(), AllocError> {
-    let certificate = certificate_of(alloc, name)?;
-    note_texts(alloc, wrong, name, certificate.as_str(), ANY_CHANGES)?;
-    note_texts(alloc, wrong, name, certificate.as_str(), changes)
-}
-
-// The wrong answers to the certificate of a file with other texts.
-fn wrong_texts(alloc: Global, name: &str, changes: &str) -> Result<String, AllocError> {
-    let mut wrong = String::new(alloc);
-    note_texts_of(alloc, &mut wrong, name, changes)?;
-    Ok(wrong)
+fn changes_have(rt: &impl Abort, alloc: Global, name: &str, changes: &str) {
+    let certificate = certificate_of(alloc, name).expect(rt, "memory");
+    texts_have(rt, alloc, name, certificate.as_str(), ANY_CHANGES);
+    texts_have(rt, alloc, name, certificate.as_str(), changes);
 }
 
 #[test]
-fn a_certificate_with_another_text_has_its_answer(rt: HostRuntime) -> Result<(), AllocError> {
+fn a_certificate_with_another_text_has_its_answer(rt: HostRuntime) {
     for (name, changes) in [("hazards", TEXT_CHANGES), ("marked-shared", MARKED_CHANGES)] {
-        text_is(&rt, wrong_texts(rt.alloc(), name, changes), "", name)?;
+        changes_have(&rt, rt.alloc(), name, changes);
     }
-    Ok(())
 }
 
 // A point of `hazards` that is neither the first nor the last, its environment without the brackets at its two ends,
@@ -309,24 +282,11 @@ fn verified_env(
     verified_line(alloc, "hazards", changed.as_str())
 }
 
-fn note_env(
-    alloc: Global,
-    wrong: &mut String,
-    certificate: &str,
-    point: usize,
-    env: &str,
-    want: &str,
-) -> Result<(), AllocError> {
-    let have = verified_env(alloc, certificate, point, env)?;
-    note(wrong, env, have.as_str(), want)
-}
-
-fn note_envs(alloc: Global, wrong: &mut String, certificate: &str) -> Result<(), AllocError> {
+fn envs_are_told(rt: &impl Abort, alloc: Global, certificate: &str) {
     for row in ENV_CHANGES {
         let (point, env, want) = *row;
-        note_env(alloc, wrong, certificate, point, env, want)?;
+        text_is(rt, verified_env(alloc, certificate, point, env), want, env);
     }
-    Ok(())
 }
 
 // What stands before the first tree of a certificate, what stands there before the first leaf, and what stands after
@@ -356,32 +316,26 @@ fn verified_leaf(alloc: Global, certificate: &str) -> Result<String, AllocError>
     verified(alloc, "hazards", changed.as_str())
 }
 
-fn note_leaf(alloc: Global, wrong: &mut String, certificate: &str) -> Result<(), AllocError> {
-    let have = verified_leaf(alloc, certificate)?;
-    let want = due_to_leaf(alloc, certificate)?;
-    note(wrong, "leaf", have.as_str(), want.as_str())
+fn leaf_is_told(rt: &impl Abort, alloc: Global, certificate: &str) {
+    let want = due_to_leaf(alloc, certificate).expect(rt, "memory");
+    text_is(rt, verified_leaf(alloc, certificate), want.as_str(), "leaf");
 }
 
-fn note_parts(alloc: Global, wrong: &mut String, name: &str) -> Result<(), AllocError> {
-    let certificate = certificate_of(alloc, name)?;
-    note_envs(alloc, wrong, certificate.as_str())?;
-    note_leaf(alloc, wrong, certificate.as_str())
-}
-
-// The wrong answers to the certificate of `hazards` with other environments, and with that leaf.
-fn wrong_parts(alloc: Global) -> Result<String, AllocError> {
-    let mut wrong = String::new(alloc);
-    note_parts(alloc, &mut wrong, "hazards")?;
-    Ok(wrong)
+// Fails where an answer to the certificate of `hazards` with another environment, or with that leaf, isn't the one that
+// is due.
+fn parts_are_told(rt: &impl Abort, alloc: Global) {
+    let certificate = certificate_of(alloc, "hazards").expect(rt, "memory");
+    envs_are_told(rt, alloc, certificate.as_str());
+    leaf_is_told(rt, alloc, certificate.as_str());
 }
 
 #[test]
-fn other_parts_and_certificates_of_others_are_told(rt: HostRuntime) -> Result<(), AllocError> {
-    text_is(&rt, wrong_parts(rt.alloc()), "", "hazards")?;
+fn other_parts_and_certificates_of_others_are_told(rt: HostRuntime) {
+    parts_are_told(&rt, rt.alloc());
     text_is(
         &rt,
         verified_of(rt.alloc(), "hazards", "epochs-held"),
         "1\ninvalid envs 35 37\n",
         "epochs-held",
-    )
+    );
 }

@@ -3,20 +3,21 @@
 // answer so too.
 use crate::tests::program::{answered_failing, entries, some_files, words_of};
 use crate::tests::rows::{CHECKED, REPLAYED, SUGGESTED};
-use crate::tests::texts::{halves, note, text_is, told};
+use crate::tests::texts::{halves, text_is, told};
 use plc_base::NoMemory;
-use plc_cli::{Files, run_with_own};
+use plc_cli::run_with_own;
 use plc_outside::{FixedSink, HonestFiles};
 use std::alloc::{AllocError, Global};
+use std::process::Abort;
 
-// Words, how many reads they ask for, how many bytes an output is to take at each call, and one call more than
-// it then needs.
-const COMMANDS: &[(&str, u64, usize, usize)] = &[
-    ("check hazards", 1, 150, 4),
-    ("verify publish certificate", 2, 20, 3),
-    ("replay stack reused list", 2, 10, 4),
-    ("suggest stack", 1, 40, 4),
-    ("locate hazards claims", 2, 20, 3),
+// Words, the rows that have their answer, how many reads they ask for, how many bytes an output is to take at each call,
+// and one call more than it then needs.
+const COMMANDS: &[(&str, &str, u64, usize, usize)] = &[
+    ("check hazards", CHECKED, 1, 150, 4),
+    ("verify publish certificate", VERIFIED, 2, 20, 3),
+    ("replay stack reused list", REPLAYED, 2, 10, 4),
+    ("suggest stack", SUGGESTED, 1, 40, 4),
+    ("locate hazards claims", LOCATED, 2, 20, 3),
 ];
 
 const VERIFIED: &str = "# verify publish certificate: 0
@@ -27,28 +28,11 @@ const LOCATED: &str = "# locate hazards claims: 0
 located claims 1 obligations 2885
 ";
 
-// Whether these words are one of the commands of a row.
-fn has_command(head: &str, words: &str) -> bool {
-    for command in head.split(", ") {
-        if command == words {
-            return true;
-        }
-    }
-    false
-}
-
-// The status and the text that are due to words.
-fn wanted(words: &str) -> &'static str {
-    for rows in [CHECKED, VERIFIED, REPLAYED, SUGGESTED, LOCATED] {
-        for row in rows.split("# ") {
-            if let Some((head, answer)) = row.split_once(": ") {
-                if has_command(head, words) {
-                    return answer;
-                }
-            }
-        }
-    }
-    ""
+// The status and the text that are due to words, by rows that have them as the last or only command of a row.
+fn wanted<'a>(rows: &'a str, words: &str) -> &'a str {
+    let (_, rest) = halves(rows, words);
+    let row = rest.strip_prefix(": ").unwrap_or("");
+    row.split("# ").next().unwrap_or("")
 }
 
 // What is due where an output takes so many bytes of an answer: all of it, or the bytes with status 5.
@@ -76,69 +60,48 @@ fn answer_failing(
     answered_failing(alloc, &mut files, &words, most, put)
 }
 
-// Notes the answer where a read fails and it isn't the one that is due.
-fn note_read(
-    alloc: Global,
-    wrong: &mut String,
-    words: &str,
-    read: u64,
-    most: usize,
-) -> Result<(), AllocError> {
-    let have = answer_failing(alloc, words, read, 0, most)?;
-    note(wrong, words, have.as_str(), "4\nread failed\n")
-}
-
-// The answers that aren't due where each read fails in its turn.
-fn wrong_reads(alloc: Global, words: &str, reads: u64, most: usize) -> Result<String, AllocError> {
-    let mut wrong = String::new(alloc);
+// Fails where a read fails, each in its turn, and that isn't the answer.
+fn reads_are_told(rt: &impl Abort, alloc: Global, words: &str, reads: u64, most: usize) {
     for n in 0..reads {
-        note_read(alloc, &mut wrong, words, n.wrapping_add(1), most)?;
+        let text = answer_failing(alloc, words, n.wrapping_add(1), 0, most);
+        text_is(rt, text, "4\nread failed\n", words);
     }
-    Ok(wrong)
 }
 
-// Notes the answer where a call of `put` fails after so many and it isn't the one that is due.
-fn note_write(
-    alloc: Global,
-    wrong: &mut String,
-    words: &str,
-    most: usize,
-    n: usize,
-) -> Result<(), AllocError> {
-    let have = answer_failing(alloc, words, 0, (n as u64).wrapping_add(1), most)?;
-    let want = due(alloc, wanted(words), most.wrapping_mul(n))?;
-    note(wrong, words, have.as_str(), want.as_str())
+// Fails where a call of `put` fails after so many and the answer isn't the one that is due.
+fn write_is_told(rt: &impl Abort, alloc: Global, words: &str, answer: &str, most: usize, n: usize) {
+    let want = due(alloc, answer, most.wrapping_mul(n)).expect(rt, "memory");
+    let text = answer_failing(alloc, words, 0, (n as u64).wrapping_add(1), most);
+    text_is(rt, text, want.as_str(), words);
 }
 
 // The same where each call of `put` fails in its turn, the last of which isn't needed.
-fn wrong_writes(
+fn writes_are_told(
+    rt: &impl Abort,
     alloc: Global,
     words: &str,
+    answer: &str,
     most: usize,
     writes: usize,
-) -> Result<String, AllocError> {
-    let mut wrong = String::new(alloc);
+) {
     for n in 0..writes {
-        note_write(alloc, &mut wrong, words, most, n)?;
+        write_is_told(rt, alloc, words, answer, most, n);
     }
-    Ok(wrong)
 }
 
 #[test]
-fn each_call_of_the_outside_fails_in_turn(rt: HostRuntime) -> Result<(), AllocError> {
-    let alloc = rt.alloc();
+fn each_call_of_the_outside_fails_in_turn(rt: HostRuntime) {
     for row in COMMANDS {
-        let (words, reads, most, writes) = *row;
-        text_is(&rt, wrong_reads(alloc, words, reads, most), "", words)?;
-        text_is(&rt, wrong_writes(alloc, words, most, writes), "", words)?;
+        let (words, rows, reads, most, writes) = *row;
+        reads_are_told(&rt, rt.alloc(), words, reads, most);
+        writes_are_told(&rt, rt.alloc(), words, wanted(rows, words), most, writes);
     }
-    Ok(())
 }
 
 // The status and the text in an output with so much room.
-fn answered_fixed<F: Files>(
+fn answered_fixed(
     alloc: Global,
-    files: &mut F,
+    files: &mut HonestFiles,
     words: &[String],
     room: usize,
 ) -> Result<String, NoMemory> {
@@ -157,28 +120,22 @@ fn answered_honestly(alloc: Global, words: &str, room: usize) -> Result<String, 
     answered_fixed(alloc, &mut files, &words, room)
 }
 
-fn note_room(alloc: Global, wrong: &mut String, room: usize, want: &str) -> Result<(), NoMemory> {
-    let have = answered_honestly(alloc, "check hazards", room)?;
-    Ok(note(wrong, "check hazards", have.as_str(), want)?)
-}
-
-// What is answered to a check with so much room, where it isn't what is due.
-fn wrong_room(alloc: Global, room: usize) -> Result<String, NoMemory> {
-    let want = due(alloc, wanted("check hazards"), room)?;
-    let mut wrong = String::new(alloc);
-    note_room(alloc, &mut wrong, room, want.as_str())?;
-    Ok(wrong)
+// Fails where what is answered to a check with so much room isn't what is due.
+fn room_is(rt: &impl Abort, alloc: Global, room: usize) {
+    let want = due(alloc, wanted(CHECKED, "check hazards"), room).expect(rt, "memory");
+    let text = answered_honestly(alloc, "check hazards", room);
+    text_is(rt, text, want.as_str(), "check hazards");
 }
 
 #[test]
-fn a_fixed_room_takes_all_or_a_part(rt: HostRuntime) -> Result<(), NoMemory> {
+fn a_fixed_room_takes_all_or_a_part(rt: HostRuntime) {
     for room in [1000, 100, 1, 0] {
-        text_is(&rt, wrong_room(rt.alloc(), room), "", "check hazards")?;
+        room_is(&rt, rt.alloc(), room);
     }
     text_is(
         &rt,
         answered_honestly(rt.alloc(), "check absent", 100),
         "2\nrefused syntax token 0 line 1\n",
         "check absent",
-    )
+    );
 }

@@ -453,41 +453,32 @@ pub(crate) fn put_pieces(
     Ok(())
 }
 
-// The bytes of a file that no section has.
+// The bytes of a file that no section has: a stack, or one of these.
 fn made_bytes(alloc: Global, name: &str) -> Result<Vec<u8>, AllocError> {
     match name {
         "reuses" => reuses(alloc),
         "open-atomic" => Vec::from_slice(alloc, OPEN.as_bytes()),
         "outlined" => Vec::from_slice(alloc, OUTLINED.as_bytes()),
-        _ => Ok(vec![in alloc; 200u8]?),
+        "byte" => Vec::from_slice(alloc, &[200]),
+        _ => Ok(text_of(alloc, name)?.into_bytes()),
     }
 }
 
-const MADE: &[&str] = &["reuses", "open-atomic", "outlined", "byte"];
+const MADE: &[&str] = &[
+    "reuses",
+    "open-atomic",
+    "outlined",
+    "byte",
+    "hazards",
+    "epochs-held",
+];
 
-pub(crate) fn put_made(alloc: Global, files: &mut Entries) -> Result<(), AllocError> {
+fn put_made(alloc: Global, files: &mut Entries) -> Result<(), AllocError> {
     for row in MADE {
         let name = *row;
         put(alloc, files, name, made_bytes(alloc, name)?)?;
     }
     Ok(())
-}
-
-// The stacks by their names: `hazards` and `epochs-held`.
-fn put_stacks(alloc: Global, files: &mut Entries) -> Result<(), AllocError> {
-    for row in STACKS {
-        let name = *row;
-        put(alloc, files, name, text_of(alloc, name)?.into_bytes())?;
-    }
-    Ok(())
-}
-
-// What stands here as it is.
-pub(crate) fn put_given(alloc: Global, files: &mut Entries) -> Result<(), AllocError> {
-    put_sections(alloc, files, FILES)?;
-    put_stacks(alloc, files)?;
-    put_pieces(alloc, files, SCHEDULES)?;
-    put_pieces(alloc, files, JUDGED)
 }
 
 // The text of a file that a section has.
@@ -553,10 +544,19 @@ pub(crate) fn changed(
     with_lines(alloc, text.as_str(), changes)
 }
 
-pub(crate) fn put_changed(alloc: Global, files: &mut Entries) -> Result<(), AllocError> {
+fn put_changed(alloc: Global, files: &mut Entries) -> Result<(), AllocError> {
     for (name, base, changes) in CHANGED {
         let text = changed(alloc, *base, *changes)?;
         put(alloc, files, *name, text.into_bytes())?;
     }
     Ok(())
+}
+
+// All files, schedules, certificates and claims.
+pub(crate) fn put_all(alloc: Global, files: &mut Entries) -> Result<(), AllocError> {
+    put_sections(alloc, files, FILES)?;
+    put_pieces(alloc, files, SCHEDULES)?;
+    put_pieces(alloc, files, JUDGED)?;
+    put_made(alloc, files)?;
+    put_changed(alloc, files)
 }

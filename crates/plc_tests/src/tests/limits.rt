@@ -2,9 +2,9 @@
 // `check` is asked for all, each command that reads files for those that are tested after the parse. The texts are made
 // here, part by part.
 use crate::tests::files::files_of;
-use crate::tests::program::{Part, note_commands};
-use crate::tests::texts::text_is;
+use crate::tests::program::{Part, answers_are};
 use std::alloc::{AllocError, Global};
+use std::process::Abort;
 
 // The words of commands over the file `made`; how many parts that has, what stands before them, a part, in which `$`
 // is its number, and what stands after them; then the status and the first line of each answer to so many parts, and
@@ -189,33 +189,17 @@ step 0 0 4097
 
 const PLAIN: &str = "struct N { } op f() { ptr p; p := new; }";
 
-// Notes the answers to commands over `made`, a plain file and claims whose status and first line aren't as is wanted.
-fn note_answers(
-    alloc: Global,
-    wrong: &mut String,
-    commands: &str,
-    made: &[u8],
-    want: &str,
-) -> Result<(), AllocError> {
+// Fails where the status and the first line of what is answered to one of these commands over `made`, a plain file and
+// claims aren't as is wanted.
+fn answers_over(rt: &impl Abort, alloc: Global, commands: &str, made: &[u8], want: &str) {
     let list = [
         ("plain", PLAIN.as_bytes()),
         ("claims", CLAIMS.as_bytes()),
         ("others", OTHERS.as_bytes()),
         ("made", made),
     ];
-    let mut files = files_of(alloc, &list)?;
-    note_commands(alloc, wrong, &mut files, commands, Part::Head, want)
-}
-
-fn wrong_answers(
-    alloc: Global,
-    commands: &str,
-    made: &[u8],
-    want: &str,
-) -> Result<String, AllocError> {
-    let mut wrong = String::new(alloc);
-    note_answers(alloc, &mut wrong, commands, made, want)?;
-    Ok(wrong)
+    let mut files = files_of(alloc, &list).expect(rt, "memory");
+    answers_are(rt, alloc, &mut files, commands, Part::Head, want);
 }
 
 // A part, with its number in the place of `$`.
@@ -276,84 +260,59 @@ fn made_text(alloc: Global, row: &str, more: u32) -> Result<String, AllocError> 
     )
 }
 
-// Notes the answers to that text that aren't this one.
-fn note_made(
-    alloc: Global,
-    wrong: &mut String,
-    row: &str,
-    more: u32,
-    want: &str,
-) -> Result<(), AllocError> {
-    let made = made_text(alloc, row, more)?;
-    note_answers(alloc, wrong, field(row, 0), made.as_bytes(), want)
+// Fails where an answer to that text isn't this one.
+fn text_has(rt: &impl Abort, alloc: Global, row: &str, more: u32, want: &str) {
+    let text = made_text(alloc, row, more).expect(rt, "memory");
+    answers_over(rt, alloc, field(row, 0), text.as_bytes(), want);
 }
 
-// Notes the answers of a row that aren't as is wanted: that to its text, and where the row has a second one, that to
-// the text with a part more.
-fn note_row(alloc: Global, wrong: &mut String, row: &str) -> Result<(), AllocError> {
-    note_made(alloc, wrong, row, 0, field(row, 5).trim_end())?;
-    match row.split("|").nth(6) {
-        Some(want) => note_made(alloc, wrong, row, 1, want.trim_end()),
-        None => Ok(()),
+// Fails where an answer of a row isn't as is wanted: one to its text, or where the row has a second one, one to the text
+// with a part more.
+fn row_is(rt: &impl Abort, alloc: Global, row: &str) {
+    text_has(rt, alloc, row, 0, field(row, 5).trim_end());
+    if let Some(want) = row.split("|").nth(6) {
+        text_has(rt, alloc, row, 1, want.trim_end());
     }
 }
 
-fn wrong_in_rows(alloc: Global, rows: &str) -> Result<String, AllocError> {
-    let mut wrong = String::new(alloc);
+fn rows_are(rt: &impl Abort, alloc: Global, rows: &str) {
     for row in rows.split("# ") {
         if !row.is_empty() {
-            note_row(alloc, &mut wrong, row)?;
+            row_is(rt, alloc, row);
         }
     }
-    Ok(wrong)
 }
 
 #[test]
-fn parts_have_limits(rt: HostRuntime) -> Result<(), AllocError> {
+fn parts_have_limits(rt: HostRuntime) {
     for rows in [PARTS, CLAUSES, POINTS_AND_LINES, EXTENDED, SPOTS] {
-        text_is(&rt, wrong_in_rows(rt.alloc(), rows), "", "parts")?;
+        rows_are(&rt, rt.alloc(), rows);
     }
-    Ok(())
 }
 
 // Apart from the others, since it takes longest: some of its files have a million obligations.
 #[test]
-fn obligations_have_a_limit(rt: HostRuntime) -> Result<(), AllocError> {
-    for (name, rows) in [
-        ("obligations", OBLIGATIONS),
-        ("a million", MOST_OBLIGATIONS),
-    ] {
-        text_is(&rt, wrong_in_rows(rt.alloc(), rows), "", name)?;
+fn obligations_have_a_limit(rt: HostRuntime) {
+    for rows in [OBLIGATIONS, MOST_OBLIGATIONS] {
+        rows_are(&rt, rt.alloc(), rows);
     }
-    Ok(())
 }
 
-// The wrong answers to commands over so many blanks.
-fn wrong_of_blanks(
-    alloc: Global,
-    commands: &str,
-    count: usize,
-    want: &str,
-) -> Result<String, AllocError> {
-    let made = vec![in alloc; b' '; count]?;
-    wrong_answers(alloc, commands, &made, want)
+// Fails where an answer to one of these commands over so many blanks isn't as is wanted.
+fn blanks_are(rt: &impl Abort, alloc: Global, commands: &str, count: usize, want: &str) {
+    let made = vec![in alloc; b' '; count].expect(rt, "memory");
+    answers_over(rt, alloc, commands, &made, want);
 }
 
 #[test]
-fn files_have_sizes(rt: HostRuntime) -> Result<(), AllocError> {
+fn files_have_sizes(rt: HostRuntime) {
     for row in SIZES {
         let (commands, count, want) = *row;
-        text_is(
-            &rt,
-            wrong_of_blanks(rt.alloc(), commands, count, want),
-            "",
-            commands,
-        )?;
+        blanks_are(&rt, rt.alloc(), commands, count, want);
     }
-    Ok(())
 }
 
 #[test]
-fn numbers_have_limits(rt: HostRuntime) -> Result<(), AllocError> {
-    text_is(&rt, wrong_in_rows(rt.alloc(), NUMBERS), "", "numbers")
+fn numbers_have_limits(rt: HostRuntime) {
+    rows_are(&rt, rt.alloc(), NUMBERS);
 }

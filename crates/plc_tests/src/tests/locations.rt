@@ -123,13 +123,12 @@ fn answer_for(alloc: Global, name: &str, claims: &str) -> Result<String, AllocEr
 }
 
 #[test]
-fn claims_of_locations_have_their_answers(rt: HostRuntime) -> Result<(), AllocError> {
+fn claims_of_locations_have_their_answers(rt: HostRuntime) {
     for rows in [HELD, ORDER, PLAIN, STOPS] {
         for row in rows.lines() {
             let (name, rest) = halves(row, " => ");
             let (claims, want) = halves(rest, " => ");
-            text_is(&rt, answer_for(rt.alloc(), name, claims), want, row)?;
+            text_is(&rt, answer_for(rt.alloc(), name, claims), want, row);
         }
     }
-    Ok(())
 }

@@ -3,9 +3,9 @@
 // few samples that are larger than any file here.
 ghost use Rattle.plc_setting.specs.Fit.{Fits};
 
-use crate::tests::files::{CHANGED, changed};
+use crate::tests::locations::file_text;
 use crate::tests::program::{answer_over, text_over};
-use crate::tests::texts::{first_of, text_is};
+use crate::tests::texts::{first_of, halves, text_is};
 use plc_base::{Items, NoMemory};
 use plc_check::Judged;
 use plc_ground::{GroundModel, GroundSet, is_model};
@@ -86,17 +86,6 @@ fn answer_to(alloc: Global, text: &str) -> Result<String, AllocError> {
     text_over(alloc, &[("file", text.as_bytes())], "check file", "1\n")
 }
 
-// The first line of what is answered to a file that is changed, where its classes are a model.
-fn first_line(alloc: Global, name: &str) -> Result<String, NoMemory> {
-    for (changed_name, base, changes) in CHANGED {
-        if *changed_name == name {
-            let text = changed(alloc, *base, *changes)?;
-            return first_line_of(alloc, text.as_str());
-        }
-    }
-    Ok(String::new(alloc))
-}
-
 // Whether an answer to a file tells a model.
 fn tells_a_model(alloc: Global, text: &str, answer: &str) -> Result<bool, NoMemory> {
     let judged = loaded(alloc, text)?;
@@ -105,19 +94,22 @@ fn tells_a_model(alloc: Global, text: &str, answer: &str) -> Result<bool, NoMemo
     tells
 }
 
+// The first line of what is answered to a text, where its classes are a model.
 fn first_line_of(alloc: Global, text: &str) -> Result<String, NoMemory> {
     let answer = answer_to(alloc, text)?;
-    if !tells_a_model(alloc, text, answer.as_str())? {
-        return Ok(String::new(alloc));
-    }
-    match answer.as_str().split_once("\n") {
-        Some((line, _)) => Ok(String::from_str(alloc, line)?),
-        None => Ok(String::new(alloc)),
-    }
+    let told = tells_a_model(alloc, text, answer.as_str())?;
+    let (line, _) = halves(answer.as_str(), "\n");
+    Ok(String::from_str(alloc, if told { line } else { "" })?)
+}
+
+// The same of a file that is changed.
+fn first_line(alloc: Global, name: &str) -> Result<String, NoMemory> {
+    let text = file_text(alloc, name)?;
+    first_line_of(alloc, text.as_str())
 }
 
 #[test]
-fn what_is_printed_is_a_model(rt: HostRuntime) -> Result<(), NoMemory> {
+fn what_is_printed_is_a_model(rt: HostRuntime) {
     for row in &[
         ("claimed-late", "unproved claim step 29 prim 0 line 36"),
         ("weaker", "unproved own step 6 line 15 clause 3"),
@@ -128,9 +120,8 @@ fn what_is_printed_is_a_model(rt: HostRuntime) -> Result<(), NoMemory> {
         ("marked-cleared", "unproved own step 1 line 3 clause 1"),
     ] {
         let (name, want) = *row;
-        text_is(&rt, first_line(rt.alloc(), name), want, name)?;
+        text_is(&rt, first_line(rt.alloc(), name), want, name);
     }
-    Ok(())
 }
 
 // The status and the first line of what is answered to words without files.
@@ -140,7 +131,7 @@ fn sampled(alloc: Global, words: &str) -> Result<String, AllocError> {
 }
 
 #[test]
-fn samples_have_their_verdicts(rt: HostRuntime) -> Result<(), AllocError> {
+fn samples_have_their_verdicts(rt: HostRuntime) {
     for row in &[
         ("sample 1 46", "1 unproved own step 6 line 15 clause 3"),
         (
@@ -153,7 +144,6 @@ fn samples_have_their_verdicts(rt: HostRuntime) -> Result<(), AllocError> {
         ),
     ] {
         let (words, want) = *row;
-        text_is(&rt, sampled(rt.alloc(), words), want, words)?;
+        text_is(&rt, sampled(rt.alloc(), words), want, words);
     }
-    Ok(())
 }

@@ -93,8 +93,8 @@ fn memory_text(alloc: Global) -> Result<String, AllocError> {
 }
 
 #[test]
-fn files_in_memory(rt: HostRuntime) -> Result<(), AllocError> {
-    text_is(&rt, memory_text(rt.alloc()), ANSWERS, "seven reads")
+fn files_in_memory(rt: HostRuntime) {
+    text_is(&rt, memory_text(rt.alloc()), ANSWERS, "seven reads");
 }
 
 // What a sink answers to a text.
@@ -125,13 +125,13 @@ fn failing_text(alloc: Global, most: usize, failing: u64) -> Result<String, Allo
 }
 
 #[test]
-fn sinks_in_memory(rt: HostRuntime) -> Result<(), AllocError> {
+fn sinks_in_memory(rt: HostRuntime) {
     text_is(
         &rt,
         growing_text(rt.alloc()),
         "Ok(0) Ok(2) ok abcde",
         "growing",
-    )?;
+    );
     for row in &[
         ("ok abc", 1, 0),
         ("ok abc", 2, 0),
@@ -141,9 +141,8 @@ fn sinks_in_memory(rt: HostRuntime) -> Result<(), AllocError> {
         ("failed ", 0, 0),
     ] {
         let (want, most, failing) = *row;
-        text_is(&rt, failing_text(rt.alloc(), most, failing), want, want)?;
+        text_is(&rt, failing_text(rt.alloc(), most, failing), want, want);
     }
-    Ok(())
 }
 
 const FILE_FAULTS: &[(FileFault, &str)] = &[
@@ -158,14 +157,13 @@ const SINK_FAULTS: &[(SinkFault, &str)] = &[
 ];
 
 #[test]
-fn faults_print_their_cause(rt: HostRuntime) -> Result<(), AllocError> {
+fn faults_print_their_cause(rt: HostRuntime) {
     for (fault, want) in FILE_FAULTS {
-        text_is(&rt, format!(in rt.alloc(); "{fault}"), *want, *want)?;
+        text_is(&rt, format!(in rt.alloc(); "{fault}"), *want, *want);
     }
     for (fault, want) in SINK_FAULTS {
-        text_is(&rt, format!(in rt.alloc(); "{fault}"), *want, *want)?;
+        text_is(&rt, format!(in rt.alloc(); "{fault}"), *want, *want);
     }
-    Ok(())
 }
 
 // What the system's file is read as, of which all bytes are `x`, and what other names are.
@@ -184,9 +182,8 @@ fn systems_text<F: Files>(alloc: Global, files: &mut F, name: &str) -> Result<St
 // A name of the system's own for a file that no one else has.
 fn own_name(rt: &HostRuntime) -> io::Result<String> {
     let folder = env::temp_dir(rt)?;
-    let name = format!(in rt.alloc(); "plc_outside_{}", process::id(rt.process()))?;
-    let path = folder.join(rt.alloc(), name.as_str())?;
-    Ok(String::from_str(rt.alloc(), path.to_str().unwrap_or(""))?)
+    let folder = folder.to_str().unwrap_or("");
+    Ok(format!(in rt.alloc(); "{folder}/plc_outside_{}", process::id(rt.process()))?)
 }
 
 // Pieces of the system's reads are shorter than this file.
@@ -195,26 +192,35 @@ fn write_long(rt: &HostRuntime, name: &str) -> io::Result<()> {
     fs::write(rt, name, text.as_slice())
 }
 
+// What is read of such a file through the system.
 fn real_text(rt: &HostRuntime, name: &str) -> io::Result<String> {
     let mut files = RealFiles::new(rt.alloc(), rt.clone()?);
     Ok(systems_text(rt.alloc(), &mut files, name)?)
 }
 
+// The same of a file that is written before and removed after.
+fn written_text(rt: &HostRuntime, name: &str) -> io::Result<String> {
+    write_long(rt, name)?;
+    let answers = real_text(rt, name);
+    fs::remove_file(rt, name)?;
+    answers
+}
+
 #[test]
-fn files_of_the_system(rt: HostRuntime) -> io::Result<()> {
-    let name = own_name(&rt)?;
-    write_long(&rt, name.as_str())?;
-    let answers = real_text(&rt, name.as_str())?;
-    fs::remove_file(&rt, name.as_str())?;
-    assert_eq!(rt;
-        answers.as_str(),
-        "5000 times x 5000 times x too long too long failed failed "
+fn files_of_the_system(rt: HostRuntime) {
+    let name = own_name(&rt).expect(&rt, "a name");
+    text_is(
+        &rt,
+        written_text(&rt, name.as_str()),
+        "5000 times x 5000 times x too long too long failed failed ",
+        "written",
     );
-    assert_eq!(rt;
-        real_text(&rt, name.as_str())?.as_str(),
-        "failed failed failed failed failed failed "
+    text_is(
+        &rt,
+        real_text(&rt, name.as_str()),
+        "failed failed failed failed failed failed ",
+        "removed",
     );
-    Ok(())
 }
 
 // A writer that takes one byte a call, until it is full; then it takes nothing, or fails.

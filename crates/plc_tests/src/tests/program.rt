@@ -1,18 +1,11 @@
 // Whole answers of the program over files in memory. That there is memory for an answer, and which bytes an
 // output is handed, is what no contract can say. `files.rt` has the files, and `rows.rt` the rows of answers.
-use crate::tests::files::{
-    Entries, FILES, Listed, STACKS, files_of, put_changed, put_given, put_made, text_of,
-};
+use crate::tests::files::{Entries, FILES, Listed, STACKS, files_of, put_all, text_of};
 use crate::tests::rows::{CERTIFIED, CHECKED, OUTLINED, PRINTED, REPLAYED, SUGGESTED, UNLISTED};
-use crate::tests::texts::{first_of, halves, note, on_one_line, text_is, text_under, told};
-use plc_cli::{FailSink, Files, MemFiles, VecSink, run_with_own};
+use crate::tests::texts::{first_of, halves, on_one_line, text_is, text_under, told};
+use plc_cli::{FailSink, MemFiles, VecSink, run_with_own};
 use std::alloc::{AllocError, Global};
-
-fn put_all(alloc: Global, files: &mut Entries) -> Result<(), AllocError> {
-    put_given(alloc, files)?;
-    put_made(alloc, files)?;
-    put_changed(alloc, files)
-}
+use std::process::Abort;
 
 pub(crate) fn entries(alloc: Global) -> Result<Entries, AllocError> {
     let mut files = Vec::new(alloc);
@@ -42,20 +35,16 @@ pub(crate) fn words_of(alloc: Global, words: &str) -> Result<Vec<String>, AllocE
 }
 
 // The status and then the text, in an output that never fails.
-fn answered<F: Files>(
-    alloc: Global,
-    files: &mut F,
-    words: &[String],
-) -> Result<String, AllocError> {
+fn answered(alloc: Global, files: &mut MemFiles, words: &[String]) -> Result<String, AllocError> {
     let mut out = VecSink::new(alloc);
     let status = run_with_own(alloc, words, files, &mut out);
     told(alloc, status, out.written())
 }
 
 // The same, in an output that takes so many bytes at a call and fails at one; the calls are counted from 1.
-pub(crate) fn answered_failing<F: Files>(
+pub(crate) fn answered_failing(
     alloc: Global,
-    files: &mut F,
+    files: &mut MemFiles,
     words: &[String],
     most: usize,
     failing: u64,
@@ -65,9 +54,9 @@ pub(crate) fn answered_failing<F: Files>(
     told(alloc, status, out.written())
 }
 
-pub(crate) fn answer<F: Files>(
+pub(crate) fn answer(
     alloc: Global,
-    files: &mut F,
+    files: &mut MemFiles,
     words: &str,
 ) -> Result<String, AllocError> {
     let words = words_of(alloc, words)?;
@@ -109,82 +98,51 @@ fn part_text(alloc: Global, part: Part, answer: &str) -> Result<String, AllocErr
     }
 }
 
-fn part_of_answer<F: Files>(
+fn part_of_answer(
     alloc: Global,
     part: Part,
-    files: &mut F,
+    files: &mut MemFiles,
     words: &str,
 ) -> Result<String, AllocError> {
     let answer = answer(alloc, files, words)?;
     part_text(alloc, part, answer.as_str())
 }
 
-// Notes what is answered to words where it isn't this.
-fn note_answer<F: Files>(
+// Fails where what is answered to one of these commands, which commas part, isn't this.
+pub(crate) fn answers_are(
+    rt: &impl Abort,
     alloc: Global,
-    wrong: &mut String,
-    files: &mut F,
-    words: &str,
-    part: Part,
-    want: &str,
-) -> Result<(), AllocError> {
-    let have = part_of_answer(alloc, part, files, words)?;
-    note(wrong, words, have.as_str(), want)
-}
-
-// The same of commands, which commas part.
-pub(crate) fn note_commands<F: Files>(
-    alloc: Global,
-    wrong: &mut String,
-    files: &mut F,
+    files: &mut MemFiles,
     commands: &str,
     part: Part,
     want: &str,
-) -> Result<(), AllocError> {
+) {
     for words in commands.split(", ") {
-        note_answer(alloc, wrong, files, words, part, want)?;
+        text_is(rt, part_of_answer(alloc, part, files, words), want, words);
     }
-    Ok(())
 }
 
 // The same of rows; a row is its commands, their status and their text.
-fn note_rows<F: Files>(
-    alloc: Global,
-    wrong: &mut String,
-    files: &mut F,
-    rows: &str,
-) -> Result<(), AllocError> {
+pub(crate) fn rows_are(rt: &impl Abort, alloc: Global, files: &mut MemFiles, rows: &str) {
     for row in rows.split("# ") {
         if let Some((commands, want)) = row.split_once(": ") {
-            note_commands(alloc, wrong, files, commands, Part::Whole, want)?;
+            answers_are(rt, alloc, files, commands, Part::Whole, want);
         }
     }
-    Ok(())
-}
-
-// The answers of the rows that have another one.
-pub(crate) fn wrong_rows<F: Files>(
-    alloc: Global,
-    files: &mut F,
-    rows: &str,
-) -> Result<String, AllocError> {
-    let mut wrong = String::new(alloc);
-    note_rows(alloc, &mut wrong, files, rows)?;
-    Ok(wrong)
 }
 
 // The same over all files.
-fn wrong_answers(alloc: Global, rows: &str, failing: u64) -> Result<String, AllocError> {
-    let mut files = some_files(alloc, failing)?;
-    wrong_rows(alloc, &mut files, rows)
+fn all_files_are(rt: &impl Abort, alloc: Global, rows: &str, failing: u64) {
+    let mut files = some_files(alloc, failing).expect(rt, "memory");
+    rows_are(rt, alloc, &mut files, rows);
 }
 
 #[test]
-fn each_row_has_its_answer(rt: HostRuntime) -> Result<(), AllocError> {
+fn each_row_has_its_answer(rt: HostRuntime) {
     for rows in [CHECKED, PRINTED, REPLAYED, CERTIFIED, SUGGESTED] {
-        text_is(&rt, wrong_answers(rt.alloc(), rows, 0), "", "rows")?;
+        all_files_are(&rt, rt.alloc(), rows, 0);
     }
-    text_is(&rt, wrong_answers(rt.alloc(), UNLISTED, 1), "", "unlisted")
+    all_files_are(&rt, rt.alloc(), UNLISTED, 1);
 }
 
 // The first call of `read` fails: none came before, and the next one is answered.
@@ -200,8 +158,8 @@ struct N {
 ";
 
 #[test]
-fn other_words_are_refused_unread(rt: HostRuntime) -> Result<(), AllocError> {
-    text_is(&rt, wrong_answers(rt.alloc(), UNREAD, 1), "", "unread")
+fn other_words_are_refused_unread(rt: HostRuntime) {
+    all_files_are(&rt, rt.alloc(), UNREAD, 1);
 }
 
 // What is answered to `check lost` and written into a sink that takes so many bytes and fails at a call.
@@ -217,7 +175,7 @@ fn taken_on_one_line(alloc: Global, most: usize, failing: u64) -> Result<String,
 }
 
 #[test]
-fn an_output_takes_all_or_a_part(rt: HostRuntime) -> Result<(), AllocError> {
+fn an_output_takes_all_or_a_part(rt: HostRuntime) {
     for row in &[
         (1, 0, "1 untyped step 3 prim 0 line 8 deref m\n"),
         (1, 2, "5 u"),
@@ -231,9 +189,8 @@ fn an_output_takes_all_or_a_part(rt: HostRuntime) -> Result<(), AllocError> {
             taken_on_one_line(rt.alloc(), most, failing),
             want,
             want,
-        )?;
+        );
     }
-    Ok(())
 }
 
 // What is printed of a text, below the status.
@@ -241,44 +198,37 @@ fn printed(alloc: Global, text: &str) -> Result<String, AllocError> {
     answer_over(alloc, &[("file", text.as_bytes())], "print file")
 }
 
-// Whether what was printed of a text, if there is any, is printed the same.
-fn is_reprinted(alloc: Global, once: &str) -> Result<bool, AllocError> {
-    match once.strip_prefix("0\n") {
-        Some(text) => Ok(printed(alloc, text)?.as_str() == once),
-        None => Ok(true),
+// Fails where what is printed of a text, if it is printed at all, isn't printed the same.
+fn is_printed_once(rt: &impl Abort, alloc: Global, name: &str, file: &str) {
+    let once = printed(alloc, file).expect(rt, "memory");
+    if let Some(text) = once.as_str().strip_prefix("0\n") {
+        text_is(rt, printed(alloc, text), once.as_str(), name);
     }
 }
 
-fn is_printed_once(alloc: Global, file: &str) -> Result<bool, AllocError> {
-    let once = printed(alloc, file)?;
-    is_reprinted(alloc, once.as_str())
-}
-
-fn is_stack_printed_once(alloc: Global, name: &str) -> Result<bool, AllocError> {
-    let file = text_of(alloc, name)?;
-    is_printed_once(alloc, file.as_str())
+fn is_stack_printed_once(rt: &impl Abort, alloc: Global, name: &str) {
+    let file = text_of(alloc, name).expect(rt, "memory");
+    is_printed_once(rt, alloc, name, file.as_str());
 }
 
 #[test]
-fn a_print_is_printed_the_same(rt: HostRuntime) -> Result<(), AllocError> {
+fn a_print_is_printed_the_same(rt: HostRuntime) {
     for section in FILES.split("# ") {
         let (name, file) = halves(section, "\n");
-        assert!(rt; is_printed_once(rt.alloc(), file)?, "{name}");
+        is_printed_once(&rt, rt.alloc(), name, file);
     }
-    for row in STACKS {
-        let name = *row;
-        assert!(rt; is_stack_printed_once(rt.alloc(), name)?, "{name}");
+    for name in STACKS {
+        is_stack_printed_once(&rt, rt.alloc(), *name);
     }
-    Ok(())
 }
 
 #[test]
-fn what_is_spelled_as_printed_stays(rt: HostRuntime) -> Result<(), AllocError> {
+fn what_is_spelled_as_printed_stays(rt: HostRuntime) {
     let text = text_over(
         rt.alloc(),
         &[("file", OUTLINED.as_bytes())],
         "print file",
         "0\n",
     );
-    text_is(&rt, text, OUTLINED, "outlined")
+    text_is(&rt, text, OUTLINED, "outlined");
 }

@@ -3,12 +3,13 @@
 ghost use Rattle.std.specs.Prelude.{codes};
 
 use crate::tests::files::{Entries, PUT, PUT_AND_TAKE, TAKE, put, put_pieces, put_sections};
-use crate::tests::program::{answer, words_of, wrong_rows};
-use crate::tests::texts::{note, text_is, told};
+use crate::tests::program::{answer, rows_are, words_of};
+use crate::tests::texts::{text_is, told};
 use plc_auto::{Event, Scheme};
 use plc_base::NoMemory;
 use plc_cli::{ByList, Leak, MemFiles, Reclaimer, VecSink, run};
 use std::alloc::{AllocError, Global};
+use std::process::Abort;
 
 // `hold`: a hazard pointer, taken and given up again. `stay`: an epoch, entered and left.
 const FILES: &str = "# hazards
@@ -96,14 +97,14 @@ fn some_files(alloc: Global) -> Result<MemFiles, AllocError> {
     Ok(MemFiles::new(alloc, entries(alloc)?, Vec::new(alloc)))
 }
 
-fn wrong_answers(alloc: Global) -> Result<String, AllocError> {
-    let mut files = some_files(alloc)?;
-    wrong_rows(alloc, &mut files, ROWS)
+fn answers_are(rt: &impl Abort, alloc: Global, rows: &str) {
+    let mut files = some_files(alloc).expect(rt, "memory");
+    rows_are(rt, alloc, &mut files, rows);
 }
 
 #[test]
-fn each_replay_has_its_end(rt: HostRuntime) -> Result<(), AllocError> {
-    text_is(&rt, wrong_answers(rt.alloc()), "", "replays")
+fn each_replay_has_its_end(rt: HostRuntime) {
+    answers_are(&rt, rt.alloc(), ROWS);
 }
 
 // The number that is drawn after another.
@@ -270,40 +271,25 @@ fn may_end_so(answer: &str, may_be_forbidden: bool) -> bool {
     ended || may_be_forbidden && forbidden
 }
 
-fn note_drawn(
-    alloc: Global,
-    wrong: &mut String,
-    row: (&str, &str, u32, bool),
-    seed: u32,
-) -> Result<(), AllocError> {
+// Fails where the replay of a schedule that a number draws has another end.
+fn drawn_ends_so(rt: &impl Abort, alloc: Global, row: (&str, &str, u32, bool), seed: u32) {
     let (words, op, last, may_be_forbidden) = row;
-    let answer = drawn_answer(alloc, words, op, last, seed)?;
-    if may_end_so(answer.as_str(), may_be_forbidden) {
-        Ok(())
-    } else {
-        note(
-            wrong,
-            words,
-            answer.as_str(),
-            "an end, or a forbidden free where one may be",
-        )
-    }
+    let answer = drawn_answer(alloc, words, op, last, seed).expect(rt, "memory");
+    let ends_so = may_end_so(answer.as_str(), may_be_forbidden);
+    assert!(rt; ends_so, "{words}, {seed}: {answer}");
 }
 
-fn wrong_drawn(alloc: Global, seed: u32) -> Result<String, AllocError> {
-    let mut wrong = String::new(alloc);
+fn all_drawn_end_so(rt: &impl Abort, alloc: Global, seed: u32) {
     for row in DRAWN {
-        note_drawn(alloc, &mut wrong, *row, seed)?;
+        drawn_ends_so(rt, alloc, *row, seed);
     }
-    Ok(wrong)
 }
 
 #[test]
-fn a_drawn_schedule_ends_in_no_forbidden_free(rt: HostRuntime) -> Result<(), AllocError> {
-    for (seed, row) in [(1, "1"), (2, "2"), (3, "3"), (5, "5"), (8, "8")] {
-        text_is(&rt, wrong_drawn(rt.alloc(), seed), "", row)?;
+fn a_drawn_schedule_ends_in_no_forbidden_free(rt: HostRuntime) {
+    for seed in [1, 2, 3, 5, 8] {
+        all_drawn_end_so(&rt, rt.alloc(), seed);
     }
-    Ok(())
 }
 
 // Frees nothing, as `leak` does, under the name of another.
@@ -401,14 +387,13 @@ fn answer_under_all(alloc: Global, names: &str) -> Result<String, AllocError> {
 }
 
 #[test]
-fn the_first_reclaimer_of_a_name_counts(rt: HostRuntime) -> Result<(), AllocError> {
+fn the_first_reclaimer_of_a_name_counts(rt: HostRuntime) {
     for row in &[
         ("list namesake", "1\nforbidden free 1 line 15\n"),
         ("namesake list", "0\nend lines 17 events 4 freed 0\n"),
         ("", "3\nwords refused\n"),
     ] {
         let (names, want) = *row;
-        text_is(&rt, answer_under_all(rt.alloc(), names), want, want)?;
+        text_is(&rt, answer_under_all(rt.alloc(), names), want, want);
     }
-    Ok(())
 }

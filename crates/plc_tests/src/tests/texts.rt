@@ -1,18 +1,17 @@
-// Texts that are wanted, and parts of texts. A test hands its texts on, and owns none at its own ends: what a function
-// has to show at each of its ends while it owns one costs more than all else that a test says.
+// Texts that are wanted, and parts of texts. A test hands its texts on, owns none at its own ends, and has one end: what
+// a function has to show at each of its ends while it owns one costs more than all else that a test says. So what
+// compares takes the handle by which a test fails, and fails there, also where memory ran out for the text.
 use std::alloc::{AllocError, Global};
 use std::process::Abort;
 
-// Fails a test where a text isn't the one that is wanted of a row.
-pub(crate) fn text_is<E: Drop>(
-    rt: &impl Abort,
-    text: Result<String, E>,
-    want: &str,
-    row: &str,
-) -> Result<(), E> {
-    let text = text?;
-    assert_eq!(rt; text.as_str(), want, "{row}");
-    Ok(())
+// Fails a test where a text isn't the one that is wanted of a row, or isn't there.
+pub(crate) fn text_is<E: Drop>(rt: &impl Abort, text: Result<String, E>, want: &str, row: &str) {
+    match text {
+        Ok(text) => {
+            assert_eq!(rt; text.as_str(), want, "{row}");
+        }
+        Err(_) => panic!(rt; "{row}: no text"),
+    }
 }
 
 // What stands before a mark and after it, and nothing where the mark isn't there.
@@ -42,19 +41,4 @@ pub(crate) fn first_of(alloc: Global, answer: &str) -> Result<String, AllocError
 // The text of an answer where it has this status, and no text where it has another one.
 pub(crate) fn text_under(alloc: Global, status: &str, answer: &str) -> Result<String, AllocError> {
     String::from_str(alloc, answer.strip_prefix(status).unwrap_or(""))
-}
-
-// Notes what a row has where it isn't what is wanted.
-pub(crate) fn note(
-    wrong: &mut String,
-    row: &str,
-    have: &str,
-    want: &str,
-) -> Result<(), AllocError> {
-    if have != want {
-        for piece in [row, ": ", have, ", not ", want, "\n"] {
-            wrong.push_str(piece)?;
-        }
-    }
-    Ok(())
 }
