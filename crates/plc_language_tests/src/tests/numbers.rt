@@ -1,11 +1,12 @@
 // A unit is its numbers: names in the order of their declaration, clauses by their literals, items by their places.
 use crate::tests::outlines::STACK;
 use crate::tests::tables::{Answers, assert_answer};
-use crate::tests::texts::read;
+use crate::tests::texts::push_came;
 use plc_base::Items;
 use plc_lang::{File, labels_by_op, op_of_label};
 use plc_logic::{Clause, Item, Outline, Site, op_of_site};
-use plc_parse::Unit;
+use plc_parse::{ParseFault, Unit};
+use plc_testing::{AskedOfUnit, answered_of_unit};
 use std::alloc::{AllocError, Global};
 
 // Clauses, each by its literals, and the place of each item.
@@ -89,14 +90,14 @@ fn push_unit(alloc: Global, text: &mut String, unit: &Unit) -> Result<(), AllocE
     push_labels(alloc, text, unit)
 }
 
-fn push_numbers(alloc: Global, answer: &mut String, text: &str) -> Result<(), AllocError> {
-    match read(alloc, text) {
-        Ok(unit) => {
-            let pushed = push_unit(alloc, answer, &unit);
-            drop(unit);
-            pushed
-        }
-        Err(_) => Err(AllocError),
+// The numbers of a unit, as what is asked of it.
+struct UnitNumbers;
+
+impl AskedOfUnit<String> for UnitNumbers {
+    fn answer(&self, alloc: Global, unit: &mut Unit) -> Result<String, ParseFault> {
+        let mut text = String::new(alloc);
+        push_unit(alloc, &mut text, unit)?;
+        Ok(text)
     }
 }
 
@@ -105,8 +106,12 @@ struct NumbersOf;
 
 impl Answers for NumbersOf {
     fn push(&self, alloc: Global, answer: &mut String, outline: &str) -> Result<(), AllocError> {
-        let text = format!(in alloc; "{STACK}{outline}")?;
-        push_numbers(alloc, answer, text.as_str())
+        let text = [STACK, outline].concat(alloc)?;
+        push_came(
+            answer,
+            answered_of_unit(alloc, text.as_str(), &UnitNumbers),
+            0,
+        )
     }
 }
 

@@ -1,21 +1,20 @@
 // Outlines and their items over one file, each with its fate, and what the outline at the front of tokens comes to.
 // Places count from the outline's or the item's first token.
 ghost use Rattle.std.specs.Prelude.{◌<◌, ◌^◌, length};
-ghost use Rattle.plc_lang.specs.Fit.{FileFits};
 ghost use Rattle.plc_outparse.specs.Answers.{OpsFit};
 ghost use Rattle.plc_outparse.specs.Context.{HasFewLabels};
 
 use crate::tests::tables::{Answers, assert_lines};
-use crate::tests::texts::{ForTokens, Lexed, count_tokens, fate, push_came, push_repeated, read};
-use plc_base::{FieldId, FuncId, Items, Names, What1};
-use plc_lang::{File, Op};
+use crate::tests::texts::{ForTokens, Lexed, count_tokens, fate, push_came, push_repeated};
+use plc_base::{FieldId, FuncId, What1};
+use plc_lang::Op;
 use plc_lex::Token;
 use plc_logic::Outline;
 use plc_outparse::read_outline;
 use plc_scope::{Binding, ParseFault, Scope};
 use plc_syntax::Rest;
+use plc_testing::{AskedOfScope, answered_of_scope};
 use std::alloc::{AllocError, Global};
-use std::mem;
 
 // A stack's declarations and operations, before its outline.
 pub(crate) const STACK: &str = "struct Node { ptr next; data val; }
@@ -44,7 +43,7 @@ impl<'a> Answers for OutlineOf<'a> {
     fn push(&self, alloc: Global, answer: &mut String, part: &str) -> Result<(), AllocError> {
         let before = self.before;
         let after = self.after;
-        let text = format!(in alloc; "{STACK}{before}{part}{after}")?;
+        let text = [STACK, before, part, after].concat(alloc)?;
         push_fate_after(alloc, answer, text.as_str())
     }
 }
@@ -280,18 +279,16 @@ fn came_in_scope(
     Ok(text?)
 }
 
-// What the outline at the front comes to behind the two operations, whose names and labels are taken from their file.
-fn came_behind(alloc: Global, file: &mut File, start: Rest) -> Result<String, ParseFault>
-    requires { FileFits file.old }
-{
-    let bindings = BINDINGS.to_vec(alloc)?;
-    let scope = Scope {
-        names: mem::replace(&mut file.names, Names::new(alloc, 0)),
-        bindings: Items::from_vec(bindings),
-        locals: Items::new(alloc),
-        labels: mem::replace(&mut file.labels, Items::new(alloc)),
-    };
-    came_in_scope(alloc, &scope, file.ops.as_slice(), start)
+// What the outline at the front comes to, as what is asked of names.
+#[derive(Clone, Copy)]
+struct OutlineAt<'a> {
+    start: Rest<'a>,
+}
+
+impl<'a> AskedOfScope<String> for OutlineAt<'a> {
+    fn answer(&self, alloc: Global, scope: &Scope, ops: &[Op]) -> Result<String, ParseFault> {
+        came_in_scope(alloc, scope, ops, self.start)
+    }
 }
 
 // The tokens after the first one.
@@ -304,15 +301,15 @@ fn after_first(all: &[Token]) -> Rest<'_>
     }
 }
 
-// What the outline after the first token comes to.
+// What the outline after the first token comes to behind the two operations, whose names and labels are taken from their
+// file.
 fn came_at_front(alloc: Global, all: &[Token]) -> Result<String, ParseFault>
     requires { length all.now < 2 ^ 32 }
 {
-    let start = after_first(all);
-    let mut unit = read(alloc, TWO_OPERATIONS)?;
-    let came = came_behind(alloc, &mut unit.file, start);
-    drop(unit);
-    came
+    let question = OutlineAt {
+        start: after_first(all),
+    };
+    answered_of_scope(alloc, TWO_OPERATIONS, BINDINGS, &question)
 }
 
 // What the outline comes to, whose place is one more than in the text.

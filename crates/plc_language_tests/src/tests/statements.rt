@@ -6,7 +6,7 @@ use std::alloc::{AllocError, Global};
 
 // The file of statements printed, or the fault, counted from the first of them.
 fn push_whole(alloc: Global, whole: &mut String, statement: &str) -> Result<(), AllocError> {
-    let text = format!(in alloc; "{BEFORE}{statement} }} op g() {{ }}")?;
+    let text = [BEFORE, statement, " } op g() { }"].concat(alloc)?;
     push_came(
         whole,
         canonical(alloc, text.as_str()),

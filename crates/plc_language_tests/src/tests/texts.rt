@@ -1,35 +1,27 @@
 // What a text comes to: its canonical text, or the first fault with its place, which counts from the first token
 // of the part that is the row.
-ghost use Rattle.std.specs.Prelude.{IfOk};
-ghost use Rattle.plc_lang.specs.Fit.{FileFits};
-
 use crate::tests::tables::Answers;
 use plc_base::{LARGEST_FILE, NoMemory};
 use plc_lex::{Token, tokens};
-use plc_parse::{ParseFault, Unit, parse};
+use plc_parse::{ParseFault, Unit};
 use plc_print::print;
+use plc_testing::{AskedOfUnit, answered_of_unit};
 use std::alloc::{AllocError, Global};
 
-pub(crate) fn read(alloc: Global, text: &str) -> Result<Unit, ParseFault>
-    ensures { IfOk result (λ unit. FileFits unit.file) }
-{
-    if text.len() > LARGEST_FILE {
-        return Err(ParseFault::Memory);
-    }
-    match tokens(alloc, text.as_bytes()) {
-        Ok(tokens) => parse(alloc, tokens.as_slice()),
-        Err(_) => Err(ParseFault::Memory),
+// The canonical text of a unit, as what is asked of it.
+struct PrintedUnit;
+
+impl AskedOfUnit<Vec<u8>> for PrintedUnit {
+    fn answer(&self, alloc: Global, unit: &mut Unit) -> Result<Vec<u8>, ParseFault> {
+        match print(alloc, unit) {
+            Ok(text) => Ok(text),
+            Err(NoMemory) => Err(ParseFault::Memory),
+        }
     }
 }
 
 fn printed(alloc: Global, text: &str) -> Result<Vec<u8>, ParseFault> {
-    let unit = read(alloc, text)?;
-    let printed = print(alloc, &unit);
-    drop(unit);
-    match printed {
-        Ok(text) => Ok(text),
-        Err(NoMemory) => Err(ParseFault::Memory),
-    }
+    answered_of_unit(alloc, text, &PrintedUnit)
 }
 
 fn is_printed_again(alloc: Global, text: &[u8]) -> bool {
@@ -56,10 +48,18 @@ pub(crate) fn canonical(alloc: Global, text: &str) -> Result<String, ParseFault>
     Ok(again?)
 }
 
-// One word for each file.
+// One word for each unit.
+struct IsUnit;
+
+impl AskedOfUnit<String> for IsUnit {
+    fn answer(&self, alloc: Global, _unit: &mut Unit) -> Result<String, ParseFault> {
+        Ok(String::from_str(alloc, "unit")?)
+    }
+}
+
+// That word, where a text is a file.
 pub(crate) fn fate(alloc: Global, text: &str) -> Result<String, ParseFault> {
-    drop(read(alloc, text)?);
-    Ok(String::from_str(alloc, "unit")?)
+    answered_of_unit(alloc, text, &IsUnit)
 }
 
 // A fault, with its place counted after so many tokens.
