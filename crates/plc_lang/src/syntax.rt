@@ -15,7 +15,7 @@ pub enum Var {
 }
 
 /// What is put into a data local or a data field, or what a data local is compared with.
-#[derive(Clone, Copy, Debug)]
+#[derive(Clone, Copy)]
 pub enum Num {
     /// A number that stands in the text.
     Lit(u32),
@@ -24,7 +24,7 @@ pub enum Num {
 }
 
 /// What a reclaimer function is called with.
-#[derive(Clone, Copy, Debug)]
+#[derive(Clone, Copy)]
 pub enum Arg {
     /// Nothing: the function has no pointer.
     None,
@@ -35,7 +35,7 @@ pub enum Arg {
 }
 
 /// How two data values are compared.
-#[derive(Clone, Copy, Debug)]
+#[derive(Clone, Copy)]
 pub enum Rel {
     /// `==`
     Eq,
@@ -48,7 +48,7 @@ pub enum Rel {
 }
 
 /// What is put into an auxiliary field.
-#[derive(Clone, Copy, Debug)]
+#[derive(Clone, Copy)]
 pub enum GhostVal {
     /// A value of the field, counted from 0 in the order of its declaration.
     Value(u16),
@@ -59,7 +59,7 @@ pub enum GhostVal {
 }
 
 /// One primitive of a step.
-#[derive(Clone, Copy, Debug)]
+#[derive(Clone, Copy)]
 pub enum Primitive {
     /// `p := null`
     Null { p: Var },

@@ -4,13 +4,12 @@
 ghost use Rattle.plc_setting.specs.Fit.{Fits};
 
 use crate::tests::deep::{DEEP, DEEP_MARKED};
-use crate::tests::loading::{Asked, answered};
 use crate::tests::texts::text_is;
 use plc_base::{Items, LARGEST_FILE, NoMemory};
 use plc_check::{Judged, LoadFault, load};
 use plc_ground::{GroundSet, Lit};
 use plc_oblig::{Obligation, clauses, ground, nth};
-use plc_testing::HAZARDS;
+use plc_testing::{Asked, HAZARDS, answered};
 use std::alloc::{AllocError, Global};
 
 // Sums over sets, and the most clauses that one has.
@@ -106,7 +105,7 @@ struct Sums {
     most: u64,
 }
 
-impl Asked for Sums {
+impl Asked<String> for Sums {
     fn answer(&self, alloc: Global, judged: &Judged) -> Result<String, NoMemory> {
         let sum = sum_of(alloc, judged, self.from, self.most)?;
         Ok(format!(in alloc;
@@ -124,7 +123,7 @@ fn answer(alloc: Global, file: &str, from: u64, most: u64) -> Result<String, NoM
 #[derive(Clone, Copy)]
 struct Counted(u64);
 
-impl Asked for Counted {
+impl Asked<String> for Counted {
     fn answer(&self, alloc: Global, judged: &Judged) -> Result<String, NoMemory> {
         match nth(&judged.flow, &judged.unit_outline, self.0) {
             None => Err(NoMemory),

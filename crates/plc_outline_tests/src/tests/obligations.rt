@@ -4,14 +4,13 @@
 ghost use Rattle.plc_setting.specs.Fit.{Fits};
 
 use crate::tests::deep::DEEP;
-use crate::tests::loading::{Asked, answered};
 use crate::tests::texts::text_is;
 use plc_base::NoMemory;
 use plc_check::Judged;
 use plc_flow::Flow;
 use plc_logic::Outline;
 use plc_oblig::{Obligation, count, nth};
-use plc_testing::{EPOCHS, HAZARDS, put};
+use plc_testing::{Asked, EPOCHS, HAZARDS, answered, put};
 use std::alloc::{AllocError, Global};
 
 fn obligation_text(alloc: Global, o: Obligation) -> Result<String, AllocError> {
@@ -77,7 +76,7 @@ struct Listed<'a> {
     numbers: &'a [u64],
 }
 
-impl<'a> Asked for Listed<'a> {
+impl<'a> Asked<String> for Listed<'a> {
     fn answer(&self, alloc: Global, judged: &Judged) -> Result<String, NoMemory> {
         Ok(text_of(alloc, &judged.flow, &judged.unit_outline, self.numbers)?)
     }

@@ -5,7 +5,6 @@ ghost use Rattle.plc_setting.specs.Fit.{Fits};
 
 use crate::tests::checksums::{OF_DEEP, OF_DEEP_MARKED, OF_HAZARDS};
 use crate::tests::deep::{DEEP, DEEP_MARKED};
-use crate::tests::loading::{Asked, answered};
 use crate::tests::marked_sets::MARKED_SETS;
 use crate::tests::texts::text_is;
 use crate::tests::whole_sets::{CLAIM, DEEP_START, ENTER, OTHER, OWN, START};
@@ -13,7 +12,7 @@ use plc_base::{NoMemory, What1};
 use plc_check::Judged;
 use plc_ground::{GroundSet, GroundTerm, Lit, Map, Sort, Symbol};
 use plc_oblig::{Obligation, clauses, ground, nth};
-use plc_testing::{HAZARDS, put};
+use plc_testing::{Asked, HAZARDS, answered, put};
 use std::alloc::{AllocError, Global};
 use std::process::Abort;
 
@@ -165,7 +164,7 @@ struct SetAt {
     i: u64,
 }
 
-impl Asked for SetAt {
+impl Asked<String> for SetAt {
     fn answer(&self, alloc: Global, judged: &Judged) -> Result<String, NoMemory> {
         match nth(&judged.flow, &judged.unit_outline, self.i) {
             None => Err(NoMemory),

@@ -1,10 +1,10 @@
 // Drawn moves over marked pointers, beside a model of its own: two shared pointers and a field of each of two nodes,
 // each a number and a mark. The model says which side of each test goes, and what is left at the end.
 use crate::tests::moves::ran;
-use crate::tests::texts::row_is;
+use crate::tests::texts::{Text, written_is};
 use plc_base::NoMemory;
-use plc_testing::put;
-use std::alloc::{AllocError, Global};
+use std::alloc::Global;
+use std::process::Abort;
 
 // An operation for each way to change a pointer, then one for each test. The first two make the nodes 1 and 2.
 const FILE: &str =
@@ -115,73 +115,72 @@ fn holds(model: &Model, op: u32) -> Option<bool> {
 }
 
 // The moves of an assignment.
-fn assignment_text(alloc: Global, op: u32) -> Result<String, AllocError> {
-    format!(in alloc;
-        "start 0 {op} => Done\nstep 0 0 => Done\nstep 0 0 => Done\nreturn 0 => Done\n"
-    )
+fn put_assignment(text: &mut Text, op: u32) {
+    text.put_numbered("start 0 ", op);
+    text.put(" => Done\nstep 0 0 => Done\nstep 0 0 => Done\nreturn 0 => Done\n");
 }
 
 // The moves of a test: the side that fails is tried first.
-fn test_text(alloc: Global, op: u32, is_true: bool) -> Result<String, AllocError> {
-    let (fails, goes) = if is_true { (1, 0) } else { (0, 1) };
-    format!(in alloc;
-        "start 0 {op} => Done\nstep 0 {fails} => Blocked\nstep 0 {goes} => Done\nstep 0 0 => Done\n\
-         step 0 0 => Done\nreturn 0 => Done\n"
-    )
+fn put_test(text: &mut Text, op: u32, is_true: bool) {
+    text.put_numbered("start 0 ", op);
+    text.put(if is_true {
+        " => Done\nstep 0 1 => Blocked\nstep 0 0 => Done\n"
+    } else {
+        " => Done\nstep 0 0 => Blocked\nstep 0 1 => Done\n"
+    });
+    text.put("step 0 0 => Done\nstep 0 0 => Done\nreturn 0 => Done\n");
 }
 
 // What is left, in which marks aren't told.
-fn left_text(alloc: Global, model: &Model) -> Result<String, AllocError> {
-    let (a, b) = (model.a.number, model.b.number);
-    let (first, second) = (model.first.number, model.second.number);
-    format!(in alloc; "places => Top={a} Other={b} 1.next={first} 2.next={second} used 1 used 2 \n")
+fn put_left(text: &mut Text, model: &Model) {
+    text.put_numbered("places => Top=", model.a.number);
+    text.put_numbered(" Other=", model.b.number);
+    text.put_numbered(" 1.next=", model.first.number);
+    text.put_numbered(" 2.next=", model.second.number);
+    text.put(" used 1 used 2 \n");
 }
 
 // Puts the moves of an operation, and changes the model by it. One that would go through null is left out.
-fn put_operation(
-    alloc: Global,
-    text: &mut String,
-    model: &mut Model,
-    op: u32,
-) -> Result<(), AllocError> {
-    if let Some(is_true) = holds(model, op) {
-        return put(text, test_text(alloc, op, is_true));
+fn put_operation(text: &mut Text, model: &mut Model, op: u32) {
+    match holds(model, op) {
+        Some(is_true) => put_test(text, op, is_true),
+        None => {
+            if let Some(after) = assigned(model, op) {
+                *model = after;
+                put_assignment(text, op);
+            }
+        }
     }
-    if let Some(after) = assigned(model, op) {
-        *model = after;
-        return put(text, assignment_text(alloc, op));
-    }
-    Ok(())
 }
 
 // Two hundred operations that a number draws, with the answers of the model.
-fn drawn(alloc: Global, seed: u32) -> Result<String, AllocError> {
-    let mut text = String::new(alloc);
+fn drawn(alloc: Global, seed: u32) -> Text {
+    let mut text = Text::new(alloc);
     let mut model = BEGUN;
     let mut number = seed;
     for _ in 0..200 {
         number = number.wrapping_mul(1_664_525).wrapping_add(1_013_904_223);
-        put_operation(alloc, &mut text, &mut model, 2 + number / 65_536 % 15)?;
+        put_operation(&mut text, &mut model, 2 + number / 65_536 % 15);
     }
-    put(&mut text, left_text(alloc, &model))?;
-    Ok(text)
+    put_left(&mut text, &model);
+    text
 }
 
 // The drawn moves with the answers of a run in place of the model's.
-fn replayed(alloc: Global, moves: &str) -> Result<String, NoMemory> {
+fn replayed(alloc: Global, moves: &str) -> Result<Text, NoMemory> {
     ran(alloc, FILE, &[MADE], moves)
+}
+
+// Fails a test where a run has other answers.
+fn runs_as_drawn(rt: &impl Abort, alloc: Global, moves: Text) -> Result<(), NoMemory> {
+    written_is(rt, "", replayed(alloc, moves.as_str())?, moves.as_str());
+    Ok(())
 }
 
 #[test]
 fn marks_are_those_of_the_model(rt: HostRuntime) -> Result<(), NoMemory> {
     for seed in [1, 2, 3, 5, 8] {
-        let moves = drawn(rt.alloc(), seed)?;
-        row_is(
-            &rt,
-            "",
-            replayed(rt.alloc(), moves.as_str()),
-            moves.as_str(),
-        )?;
+        runs_as_drawn(&rt, rt.alloc(), drawn(rt.alloc(), seed))?;
     }
     Ok(())
 }

@@ -3,14 +3,14 @@ ghost use Rattle.std.specs.Prelude.{IfOk};
 ghost use Rattle.plc_flow.specs.WellFormed.{FlowFits};
 ghost use Rattle.plc_run.specs.Position.{IsOfRun};
 
-use crate::tests::texts::text_is;
+use crate::tests::texts::{Text, written_is};
 use plc_auto::{Event, Observer};
-use plc_base::{FieldId, Items, NoMemory, OpId};
+use plc_base::{FieldId, FuncId, Items, NoMemory, OpId};
 use plc_check::Judged;
 use plc_flow::Flow;
 use plc_mem::Memory;
-use plc_run::{Config, Moved};
-use plc_testing::{loaded, put};
+use plc_run::{Config, Moved, Refusal};
+use plc_testing::{Asked, answered};
 use plc_threads::{Move, Place};
 use std::alloc::{AllocError, Global};
 use std::process::Abort;
@@ -36,8 +36,14 @@ fn at(numbers: &[u32], place: usize) -> u32 {
 fn move_of(alloc: Global, line: &str) -> Result<Move, NoMemory> {
     let (word, rest) = line.split_once(" ").unwrap_or((line, ""));
     let all = numbers(alloc, rest)?;
-    let t = at(&all, 0);
-    let second = (at(&all, 1) % 65536) as u16;
+    let m = move_by(alloc, word, &all);
+    drop(all);
+    m
+}
+
+fn move_by(alloc: Global, word: &str, all: &[u32]) -> Result<Move, NoMemory> {
+    let t = at(all, 0);
+    let second = (at(all, 1) % 65536) as u16;
     match word {
         "start" => Ok(Move::Start {
             t,
@@ -55,21 +61,25 @@ fn move_of(alloc: Global, line: &str) -> Result<Move, NoMemory> {
     }
 }
 
-fn event_text(alloc: Global, event: &Event) -> Result<String, AllocError> {
-    match event {
-        Event::Call { t, f, a: None } => {
-            let f = f.0;
-            format!(in alloc; ", {t} calls {f}")
-        }
-        Event::Call { t, f, a: Some(a) } => {
-            let f = f.0;
-            format!(in alloc; ", {t} calls {f} with {a}")
-        }
+fn put_call(text: &mut Text, t: u32, f: FuncId, a: Option<u32>) {
+    text.put_numbered(", ", t);
+    text.put_numbered(" calls ", u32::from(f.0));
+    if let Some(a) = a {
+        text.put_numbered(" with ", a);
+    }
+}
+
+fn put_event(text: &mut Text, event: &Event) {
+    match *event {
+        Event::Call { t, f, a } => put_call(text, t, f, a),
         Event::Done { t, f } => {
-            let f = f.0;
-            format!(in alloc; ", {t} is back from {f}")
+            text.put_numbered(", ", t);
+            text.put_numbered(" is back from ", u32::from(f.0));
         }
-        Event::Free { a } => format!(in alloc; ", {a} is freed"),
+        Event::Free { a } => {
+            text.put_numbered(", ", a);
+            text.put(" is freed");
+        }
     }
 }
 
@@ -93,24 +103,32 @@ const PLACES: &[(&str, Place)] = &[
 
 // Each place that is there with its number, after which `?` says that it is invalid; then the addresses that
 // are used, and those that are retired.
-pub(crate) fn places_text(alloc: Global, memory: &Memory) -> Result<String, AllocError> {
-    let mut text = String::new(alloc);
-    for row in PLACES {
-        let (name, place) = *row;
-        if let Some(number) = memory.number(&place) {
-            let doubt = if memory.valid(&place) { "" } else { "?" };
-            write!(text, "{name}={number}{doubt} ")?;
-        }
+pub(crate) fn put_places(text: &mut Text, memory: &Memory) {
+    for (name, place) in PLACES {
+        put_place(text, memory, name, place);
     }
     for address in [1, 2, 3] {
-        if memory.used(address) {
-            write!(text, "used {address} ")?;
-        }
-        if memory.retired(address) {
-            write!(text, "retired {address} ")?;
-        }
+        put_address(text, memory, address);
     }
-    Ok(text)
+}
+
+fn put_place(text: &mut Text, memory: &Memory, name: &str, place: &Place) {
+    if let Some(number) = memory.number(place) {
+        text.put(name);
+        text.put_numbered("=", number);
+        text.put(if memory.valid(place) { " " } else { "? " });
+    }
+}
+
+fn put_address(text: &mut Text, memory: &Memory, address: u32) {
+    if memory.used(address) {
+        text.put_numbered("used ", address);
+        text.put(" ");
+    }
+    if memory.retired(address) {
+        text.put_numbered("retired ", address);
+        text.put(" ");
+    }
 }
 
 // An answer, a race with its kind and its primitive.
@@ -122,32 +140,60 @@ fn answer_text(alloc: Global, answer: &Moved) -> Result<String, AllocError> {
 }
 
 // An answer, and the events by which the history grew.
-fn moved_text(alloc: Global, answer: &Moved, events: &[Event]) -> Result<String, AllocError> {
-    let mut text = answer_text(alloc, answer)?;
+fn put_moved(alloc: Global, text: &mut Text, answer: &Moved, events: &[Event]) {
+    text.put_text(answer_text(alloc, answer));
     for event in events {
-        put(&mut text, event_text(alloc, event))?;
+        put_event(text, event);
     }
-    Ok(text)
+}
+
+fn put_cause(alloc: Global, text: &mut Text, cause: Option<Refusal>) {
+    match cause {
+        Some(cause) => text.put_text(format!(in alloc; "{cause:?}")),
+        None => text.put("None"),
+    }
 }
 
 // Why there is no such move, after the word `why`.
-fn why_text(
+fn put_why(
     alloc: Global,
     flow: &Flow,
     observer: &Observer,
     config: &Config,
+    text: &mut Text,
     line: &str,
-) -> Result<String, NoMemory>
+) -> Result<(), NoMemory>
     requires fits { FlowFits flow.now }
     requires of_run { IsOfRun flow.now observer.now config.now }
 {
     let m = move_of(alloc, line)?;
     let cause = config.refusal(flow, &m);
     drop(m);
-    match cause? {
-        Some(cause) => Ok(format!(in alloc; "{cause:?}")?),
-        None => Ok(String::from_str(alloc, "None")?),
-    }
+    put_cause(alloc, text, cause?);
+    Ok(())
+}
+
+// One move, with its answer.
+fn take_step(
+    alloc: Global,
+    flow: &Flow,
+    observer: &Observer,
+    config: &mut Config,
+    text: &mut Text,
+    line: &str,
+) -> Result<(), NoMemory>
+    requires fits { FlowFits flow.now }
+    requires of_run { IsOfRun flow.now observer.now config.old }
+    ensures { IsOfRun flow.now observer.now config.new }
+{
+    let m = move_of(alloc, line)?;
+    let before = config.history().len();
+    let answer = config.step(flow, observer, &m);
+    drop(m);
+    let answer = answer?;
+    let events = config.history().get(before..).unwrap_or(&[]);
+    put_moved(alloc, text, &answer, events);
+    Ok(())
 }
 
 // One move, with its answer; or the places, where `places` stands in its stead, or after `why` the cause.
@@ -156,25 +202,21 @@ fn take_move(
     flow: &Flow,
     observer: &Observer,
     config: &mut Config,
+    text: &mut Text,
     line: &str,
-) -> Result<String, NoMemory>
+) -> Result<(), NoMemory>
     requires fits { FlowFits flow.now }
     requires of_run { IsOfRun flow.now observer.now config.old }
     ensures { IsOfRun flow.now observer.now config.new }
 {
     if line == "places" {
-        return Ok(places_text(alloc, config.memory())?);
+        put_places(text, config.memory());
+        return Ok(());
     }
-    if let Some(asked) = line.strip_prefix("why ") {
-        return why_text(alloc, flow, observer, config, asked);
+    match line.strip_prefix("why ") {
+        Some(asked) => put_why(alloc, flow, observer, config, text, asked),
+        None => take_step(alloc, flow, observer, config, text, line),
     }
-    let m = move_of(alloc, line)?;
-    let before = config.history().len();
-    let answer = config.step(flow, observer, &m);
-    drop(m);
-    let answer = answer?;
-    let events = config.history().get(before..).unwrap_or(&[]);
-    Ok(moved_text(alloc, &answer, events)?)
 }
 
 // The moves of a text, a line for each; what stands after an arrow is not read, but written anew.
@@ -183,19 +225,21 @@ fn take_moves(
     flow: &Flow,
     observer: &Observer,
     config: &mut Config,
+    text: &mut Text,
     moves: &str,
-) -> Result<String, NoMemory>
+) -> Result<(), NoMemory>
     requires of_run { IsOfRun flow.now observer.now config.old }
     requires fits { FlowFits flow.now }
     ensures { IsOfRun flow.now observer.now config.new }
 {
-    let mut text = String::new(alloc);
     for line in moves.lines() {
         let (line, _) = line.split_once(" => ").unwrap_or((line, ""));
-        let answer = take_move(alloc, flow, observer, config, line)?;
-        put(&mut text, format!(in alloc; "{line} => {answer}\n"))?;
+        text.put(line);
+        text.put(" => ");
+        take_move(alloc, flow, observer, config, text, line)?;
+        text.put("\n");
     }
-    Ok(text)
+    Ok(())
 }
 
 // Takes the moves of some texts, whose answers nobody reads.
@@ -204,6 +248,7 @@ pub(crate) fn take_all(
     flow: &Flow,
     observer: &Observer,
     config: &mut Config,
+    unread: &mut Text,
     texts: &[&str],
 ) -> Result<(), NoMemory>
     requires of_run { IsOfRun flow.now observer.now config.old }
@@ -211,7 +256,7 @@ pub(crate) fn take_all(
     ensures { IsOfRun flow.now observer.now config.new }
 {
     for moves in texts {
-        drop(take_moves(alloc, flow, observer, config, moves)?);
+        take_moves(alloc, flow, observer, config, unread, moves)?;
     }
     Ok(())
 }
@@ -227,33 +272,52 @@ pub(crate) fn started(alloc: Global, flow: &Flow, observer: &Observer) -> Result
     }
 }
 
-// The answers of moves after other moves.
-fn answers_after(
+// The answers of moves after other moves, whose answers are written apart.
+fn take_after(
     alloc: Global,
     judged: &Judged,
     config: &mut Config,
-    before: &[&str],
-    moves: &str,
-) -> Result<String, NoMemory>
+    unread: &mut Text,
+    text: &mut Text,
+    run: &Run,
+) -> Result<(), NoMemory>
     requires fits { FlowFits judged.now.flow }
     requires of_run { IsOfRun judged.now.flow judged.now.observer config.old }
 {
-    take_all(alloc, &judged.flow, &judged.observer, config, before)?;
-    take_moves(alloc, &judged.flow, &judged.observer, config, moves)
+    let (flow, observer) = (&judged.flow, &judged.observer);
+    take_all(alloc, flow, observer, config, unread, run.before)?;
+    take_moves(alloc, flow, observer, config, text, run.moves)
 }
 
-fn run_text(
+fn take_run(
     alloc: Global,
     judged: &Judged,
-    before: &[&str],
-    moves: &str,
-) -> Result<String, NoMemory>
+    unread: &mut Text,
+    text: &mut Text,
+    run: &Run,
+) -> Result<(), NoMemory>
     requires { FlowFits judged.now.flow }
 {
     let mut config = started(alloc, &judged.flow, &judged.observer)?;
-    let answers = answers_after(alloc, judged, &mut config, before, moves);
+    let taken = take_after(alloc, judged, &mut config, unread, text, run);
     drop(config);
-    answers
+    taken
+}
+
+// The answers of moves after other moves, as what is asked of a file.
+#[derive(Clone, Copy)]
+struct Run<'a> {
+    before: &'a [&'a str],
+    moves: &'a str,
+}
+
+impl<'a> Asked<Text> for Run<'a> {
+    fn answer(&self, alloc: Global, judged: &Judged) -> Result<Text, NoMemory> {
+        let mut unread = Text::new(alloc);
+        let mut text = Text::new(alloc);
+        take_run(alloc, judged, &mut unread, &mut text, self)?;
+        Ok(text)
+    }
 }
 
 pub(crate) fn ran(
@@ -261,11 +325,8 @@ pub(crate) fn ran(
     file: &str,
     before: &[&str],
     moves: &str,
-) -> Result<String, NoMemory> {
-    let judged = loaded(alloc, file)?;
-    let answers = run_text(alloc, &judged, before, moves);
-    drop(judged);
-    answers
+) -> Result<Text, NoMemory> {
+    answered(alloc, file, &Run { before, moves })
 }
 
 // A stack whose readers protect their nodes by hazard pointers.
@@ -394,7 +455,7 @@ fn rows_are_answered(
     rows: &str,
 ) -> Result<(), NoMemory> {
     for row in rows.split("# ") {
-        text_is(rt, ran(alloc, STACK, before, row), row)?;
+        written_is(rt, "", ran(alloc, STACK, before, row)?, row);
     }
     Ok(())
 }

@@ -2,10 +2,10 @@
 ghost use Rattle.std.specs.Prelude.{◌<◌};
 ghost use Rattle.plc_auto.specs.Table.{count_of};
 
-use crate::tests::texts::{row_is, text_is};
+use crate::tests::texts::{Text, written_is};
 use plc_auto::{EvKind, Observer};
 use plc_base::{FuncId, LocId, Mask};
-use std::alloc::{AllocError, Global};
+use std::alloc::Global;
 
 const FIRST: FuncId = FuncId(1);
 
@@ -35,19 +35,26 @@ pub fn set_of(digits: &str) -> Mask {
 }
 
 /// The locations of a set, as digits.
-pub fn push_set(text: &mut String, set: &Mask) -> Result<(), AllocError> {
+pub fn push_set(text: &mut Text, set: &Mask) {
     for location in 0..8u16 {
         if set.has(LocId(location)) {
-            text.push(char::from(b'0' + location as u8))?;
+            text.put_char(char::from(b'0' + location as u8));
         }
     }
-    Ok(())
 }
 
-fn set_text(alloc: Global, set: &Mask) -> Result<String, AllocError> {
-    let mut text = String::new(alloc);
-    push_set(&mut text, set)?;
-    Ok(text)
+// Sets, each with a blank after it.
+fn push_sets(text: &mut Text, sets: &[Mask]) {
+    for set in sets {
+        push_set(text, set);
+        text.put(" ");
+    }
+}
+
+fn set_text(alloc: Global, set: &Mask) -> Text {
+    let mut text = Text::new(alloc);
+    push_set(&mut text, set);
+    text
 }
 
 fn digit(to: Option<LocId>) -> char {
@@ -66,43 +73,33 @@ fn digit(to: Option<LocId>) -> char {
 
 // Where an event leads that is the thread's own on this address, its own on another, another thread's on
 // this, and another thread's on another: a location, or `b` for `bad`.
-fn push_targets(
-    text: &mut String,
-    observer: &Observer,
-    at: LocId,
-    kind: EvKind,
-) -> Result<(), AllocError>
+fn push_targets(text: &mut Text, observer: &Observer, at: LocId, kind: EvKind)
     requires { at.0 < count_of observer.now }
 {
     for (own, this) in [(true, true), (true, false), (false, true), (false, false)] {
-        text.push(digit(observer.step(at, kind, own, this)))?;
+        text.put_char(digit(observer.step(at, kind, own, this)));
     }
-    text.push(' ')
+    text.put(" ");
 }
 
 // A location's targets by each kind of event, after its name.
-fn push_location(
-    text: &mut String,
-    observer: &Observer,
-    at: LocId,
-    kinds: &[EvKind],
-) -> Result<(), AllocError>
+fn push_location(text: &mut Text, observer: &Observer, at: LocId, kinds: &[EvKind])
     requires { at.0 < count_of observer.now }
 {
-    text.push_str(str::from_utf8(observer.name(at)).unwrap_or("?"))?;
-    text.push(' ')?;
+    text.put(str::from_utf8(observer.name(at)).unwrap_or("?"));
+    text.put(" ");
     for kind in kinds {
-        push_targets(text, observer, at, *kind)?;
+        push_targets(text, observer, at, *kind);
     }
-    text.push('\n')
+    text.put("\n");
 }
 
-fn table_text(alloc: Global, observer: &Observer, kinds: &[EvKind]) -> Result<String, AllocError> {
-    let mut text = String::new(alloc);
+fn table_text(alloc: Global, observer: &Observer, kinds: &[EvKind]) -> Text {
+    let mut text = Text::new(alloc);
     for at in 0..observer.count() {
-        push_location(&mut text, observer, LocId(at), kinds)?;
+        push_location(&mut text, observer, LocId(at), kinds);
     }
-    Ok(text)
+    text
 }
 
 const PLAIN_TABLE: &str = "u 1010 0000 0000 b0b0 
@@ -137,7 +134,7 @@ r.kept 3366
 ";
 
 #[test]
-fn each_edge_is_that_of_the_table(rt: HostRuntime) -> Result<(), AllocError> {
+fn each_edge_is_that_of_the_table(rt: HostRuntime) {
     let retire = EvKind::Call(FuncId::RETIRE);
     let first = EvKind::Call(FIRST);
     let second = EvKind::Call(SECOND);
@@ -146,65 +143,60 @@ fn each_edge_is_that_of_the_table(rt: HostRuntime) -> Result<(), AllocError> {
     let done_second = EvKind::Done(SECOND);
     let done_other = EvKind::Done(OTHER);
     let free = EvKind::Free;
-    let plain = [retire, other, done_other, free];
+    let alloc = rt.alloc();
+    let plain = table_text(alloc, &PLAIN, &[retire, other, done_other, free]);
+    written_is(&rt, "", plain, PLAIN_TABLE);
     let hazard = [retire, first, other, done, done_other, free];
+    written_is(&rt, "", table_text(alloc, &HAZARD, &hazard), HAZARD_TABLE);
     let epoch = [retire, first, second, other, done, done_second, free];
-    let both = [first];
-    for row in &[
-        (PLAIN, plain.as_slice(), PLAIN_TABLE),
-        (HAZARD, hazard.as_slice(), HAZARD_TABLE),
-        (EPOCH, epoch.as_slice(), EPOCH_TABLE),
-        (BOTH, both.as_slice(), BOTH_TABLE),
-    ] {
-        let (observer, kinds, want) = *row;
-        text_is(&rt, table_text(rt.alloc(), &observer, kinds), want)?;
-    }
-    Ok(())
+    written_is(&rt, "", table_text(alloc, &EPOCH, &epoch), EPOCH_TABLE);
+    written_is(&rt, "", table_text(alloc, &BOTH, &[first]), BOTH_TABLE);
 }
 
 // The sets of an observer, one after the other: all, the unretired, the safe.
-fn sets_text(alloc: Global, observer: &Observer) -> Result<String, AllocError> {
-    let mut text = String::new(alloc);
-    for set in [observer.all(), observer.unretired(), observer.safe()] {
-        push_set(&mut text, &set)?;
-        text.push(' ')?;
-    }
-    Ok(text)
+fn sets_text(alloc: Global, observer: &Observer) -> Text {
+    let mut text = Text::new(alloc);
+    push_sets(
+        &mut text,
+        &[observer.all(), observer.unretired(), observer.safe()],
+    );
+    text
 }
 
 // The closures of a set without and with frees, and `?` where it isn't one of the observer's.
-fn closures_text(alloc: Global, observer: &Observer, digits: &str) -> Result<String, AllocError> {
+fn closures_text(alloc: Global, observer: &Observer, digits: &str) -> Text {
     let set = set_of(digits);
-    let mut text = String::new(alloc);
-    if !set.within(&observer.all()) {
-        text.push('?')?;
-        return Ok(text);
+    let mut text = Text::new(alloc);
+    if set.within(&observer.all()) {
+        push_set(&mut text, &observer.closure(&set, false));
+        text.put(" ");
+        push_set(&mut text, &observer.closure(&set, true));
+        text.put(" ");
+    } else {
+        text.put("?");
     }
-    for with_free in [false, true] {
-        push_set(&mut text, &observer.closure(&set, with_free))?;
-        text.push(' ')?;
-    }
-    Ok(text)
+    text
+}
+
+// Of a set that isn't one of the observer's.
+fn outside(alloc: Global) -> Text {
+    let mut text = Text::new(alloc);
+    text.put("?");
+    text
 }
 
 // Where a set of the hazard pointers' observer leads.
-fn step_text(
-    alloc: Global,
-    digits: &str,
-    kind: EvKind,
-    own: bool,
-    this: bool,
-) -> Result<String, AllocError> {
+fn step_text(alloc: Global, digits: &str, kind: EvKind, own: bool, this: bool) -> Text {
     let set = set_of(digits);
     if set.within(&HAZARD.all()) {
         set_text(alloc, &HAZARD.step_set(&set, kind, own, this))
     } else {
-        String::from_str(alloc, "?")
+        outside(alloc)
     }
 }
 
 #[test]
-fn sets_are_those_of_the_tables(rt: HostRuntime) -> Result<(), AllocError> {
+fn sets_are_those_of_the_tables(rt: HostRuntime) {
     let alloc = rt.alloc();
     for row in &[
         (PLAIN, "01 0 0 "),
@@ -212,13 +204,12 @@ fn sets_are_those_of_the_tables(rt: HostRuntime) -> Result<(), AllocError> {
         (EPOCH, "0123456 012 0126 "),
     ] {
         let (observer, want) = *row;
-        text_is(&rt, sets_text(alloc, &observer), want)?;
+        written_is(&rt, "", sets_text(alloc, &observer), want);
     }
-    Ok(())
 }
 
 #[test]
-fn closures_hold_what_happens_meanwhile(rt: HostRuntime) -> Result<(), AllocError> {
+fn closures_hold_what_happens_meanwhile(rt: HostRuntime) {
     let alloc = rt.alloc();
     for row in &[
         (HAZARD, "2", "26 26 "),
@@ -231,13 +222,12 @@ fn closures_hold_what_happens_meanwhile(rt: HostRuntime) -> Result<(), AllocErro
         (EPOCH, "4", "4 14 "),
     ] {
         let (observer, set, want) = *row;
-        row_is(&rt, set, closures_text(alloc, &observer, set), want)?;
+        written_is(&rt, set, closures_text(alloc, &observer, set), want);
     }
-    Ok(())
 }
 
 #[test]
-fn a_set_steps_member_by_member(rt: HostRuntime) -> Result<(), AllocError> {
+fn a_set_steps_member_by_member(rt: HostRuntime) {
     let alloc = rt.alloc();
     for row in &[
         (EvKind::Call(FuncId::RETIRE), false, true, "46"),
@@ -245,27 +235,24 @@ fn a_set_steps_member_by_member(rt: HostRuntime) -> Result<(), AllocError> {
         (EvKind::Free, false, true, ""),
     ] {
         let (kind, own, this, want) = *row;
-        text_is(&rt, step_text(alloc, "12", kind, own, this), want)?;
+        written_is(&rt, "", step_text(alloc, "12", kind, own, this), want);
     }
-    Ok(())
 }
 
 // The members of some sets, how many there are, and whether the first is within the second.
-fn masks_text(alloc: Global, first: &Mask, second: &Mask) -> Result<String, AllocError> {
-    let mut text = String::new(alloc);
-    for set in [first.union(second), first.meet(second)] {
-        push_set(&mut text, &set)?;
-        text.push(' ')?;
-    }
-    let bits = first.bits();
-    let count = first.count();
-    let within = first.within(second);
-    write!(text, "{bits} {count} {within}")?;
-    Ok(text)
+fn masks_text(alloc: Global, first: &Mask, second: &Mask) -> Text {
+    let mut text = Text::new(alloc);
+    push_sets(&mut text, &[first.union(second), first.meet(second)]);
+    text.put_number(u64::from(first.bits()));
+    text.put(" ");
+    text.put_number(u64::from(first.count()));
+    text.put(" ");
+    text.put_word(first.within(second));
+    text
 }
 
 #[test]
-fn masks_are_sets_of_locations(rt: HostRuntime) -> Result<(), AllocError> {
+fn masks_are_sets_of_locations(rt: HostRuntime) {
     for row in &[
         (set_of("1357"), Mask::full(4), "012357 13 170 4 false"),
         (set_of("13"), Mask::full(4), "0123 13 10 2 true"),
@@ -273,7 +260,6 @@ fn masks_are_sets_of_locations(rt: HostRuntime) -> Result<(), AllocError> {
         (Mask::empty(), Mask::full(0), "  0 0 true"),
     ] {
         let (first, second, want) = *row;
-        text_is(&rt, masks_text(rt.alloc(), &first, &second), want)?;
+        written_is(&rt, "", masks_text(rt.alloc(), &first, &second), want);
     }
-    Ok(())
 }

@@ -1,34 +1,46 @@
 // What each primitive comes to and what it leaves, by the written table, where the shared pointer is null, valid,
 // and invalid.
 use crate::tests::moves::ran;
-use crate::tests::texts::{row_is, text_is};
+use crate::tests::texts::{Text, written_is};
 use plc_base::NoMemory;
-use plc_testing::put;
 use std::alloc::Global;
+use std::process::Abort;
+
+const BEFORE: &str =
+    "struct Node { ptr next; data val; } shared Top; shared Other; call protect(ptr); call enter(); \
+     ghost stage { made, cut }; ghost owner thread; op make() { Top := new; } op drop() { retire(Top); } \
+     op it(x, y) { ptr p; ";
 
 // A statement as the one step of operation 2, whose parameters are 3 and 5. A `new` of it takes the address 1.
-fn statement_text(alloc: Global, statement: &str, before: &str) -> Result<String, NoMemory> {
-    let file = format!(in alloc;
-        "struct Node {{ ptr next; data val; }} shared Top; shared Other; call protect(ptr); call enter(); \
-         ghost stage {{ made, cut }}; ghost owner thread; op make() {{ Top := new; }} op drop() {{ retire(Top); }} \
-         op it(x, y) {{ ptr p; {statement} }}"
-    )?;
+fn ran_statement(alloc: Global, statement: &str, before: &str) -> Result<Text, NoMemory> {
+    let file = [BEFORE, statement, " }"].concat(alloc)?;
     let step = if statement.contains("new") {
         "step 0 0 1\nplaces\n"
     } else {
         "step 0 0\nplaces\n"
     };
-    let text = ran(alloc, file.as_str(), &[before, "start 0 2 3 5\n"], step);
-    drop(file);
-    let text = text?;
-    let (_, answer) = text.as_str().split_once(" => ").unwrap_or(("", "?"));
-    Ok(String::from_str(alloc, answer)?)
+    ran(alloc, file.as_str(), &[before, "start 0 2 3 5\n"], step)
+}
+
+// What stands after the first arrow.
+fn answer_in(text: &str) -> &str {
+    match text.split_once(" => ") {
+        Some((_, answer)) => answer,
+        None => "?",
+    }
 }
 
 // The first line of what a statement comes to.
-fn outcome(alloc: Global, statement: &str, before: &str) -> Result<String, NoMemory> {
-    let text = statement_text(alloc, statement, before)?;
-    Ok(String::from_str(alloc, text.as_str().lines().next().unwrap_or(""))?)
+fn put_outcome(
+    alloc: Global,
+    text: &mut Text,
+    statement: &str,
+    before: &str,
+) -> Result<(), NoMemory> {
+    let all = ran_statement(alloc, statement, before)?;
+    text.put(answer_in(all.as_str()).lines().next().unwrap_or(""));
+    text.put("\n");
+    Ok(())
 }
 
 // `Top` is null at first, valid after `VALID`, its node is retired after `RETIRED`, and it is invalid after
@@ -285,27 +297,42 @@ Done
 ";
 
 // A section whose answers are written anew: what its statement comes to in the three states, a line for each.
-fn outcomes(alloc: Global, section: &str) -> Result<String, NoMemory> {
+fn put_outcomes(alloc: Global, text: &mut Text, section: &str) -> Result<(), NoMemory> {
     let (statement, _) = section.split_once("\n").unwrap_or((section, ""));
-    let mut text = format!(in alloc; "{statement}\n")?;
-    for before in ["", VALID, INVALID] {
-        put(&mut text, outcome(alloc, statement, before))?;
-        text.push('\n')?;
-    }
+    text.put(statement);
+    text.put("\n");
+    put_outcome(alloc, text, statement, "")?;
+    put_outcome(alloc, text, statement, VALID)?;
+    put_outcome(alloc, text, statement, INVALID)
+}
+
+fn outcomes(alloc: Global, section: &str) -> Result<Text, NoMemory> {
+    let mut text = Text::new(alloc);
+    put_outcomes(alloc, &mut text, section)?;
     Ok(text)
 }
 
+const BEFORE_CALL: &str =
+    "struct Node { ptr next; } shared Top; call protect(ptr); call enter(); op make() { Top := new; } \
+     op drop() { retire(Top); } op it() { ";
+
 // The returns of a call, as the step after it, in the three states.
-fn returns(alloc: Global, statement: &str) -> Result<String, NoMemory> {
-    let file = format!(in alloc;
-        "struct Node {{ ptr next; }} shared Top; call protect(ptr); call enter(); op make() {{ Top := new; }} \
-         op drop() {{ retire(Top); }} op it() {{ {statement} }}"
-    )?;
-    let mut text = String::new(alloc);
-    for before in ["", VALID, INVALID] {
-        let before = [before, "start 0 2\nstep 0 0\n"];
-        put(&mut text, ran(alloc, file.as_str(), &before, "step 0 0"))?;
-    }
+fn put_return(alloc: Global, text: &mut Text, file: &str, before: &str) -> Result<(), NoMemory> {
+    let all = ran(alloc, file, &[before, "start 0 2\nstep 0 0\n"], "step 0 0")?;
+    text.put(all.as_str());
+    Ok(())
+}
+
+fn put_returns(alloc: Global, text: &mut Text, file: &str) -> Result<(), NoMemory> {
+    put_return(alloc, text, file, "")?;
+    put_return(alloc, text, file, VALID)?;
+    put_return(alloc, text, file, INVALID)
+}
+
+fn returns(alloc: Global, statement: &str) -> Result<Text, NoMemory> {
+    let file = [BEFORE_CALL, statement, " }"].concat(alloc)?;
+    let mut text = Text::new(alloc);
+    put_returns(alloc, &mut text, file.as_str())?;
     Ok(text)
 }
 
@@ -328,7 +355,7 @@ fn calls_return(rt: HostRuntime) -> Result<(), NoMemory> {
         ("enter();", FROM_ENTER),
     ] {
         let (statement, want) = *row;
-        row_is(&rt, statement, returns(rt.alloc(), statement), want)?;
+        written_is(&rt, statement, returns(rt.alloc(), statement)?, want);
     }
     Ok(())
 }
@@ -336,7 +363,7 @@ fn calls_return(rt: HostRuntime) -> Result<(), NoMemory> {
 #[test]
 fn primitives_have_their_outcomes(rt: HostRuntime) -> Result<(), NoMemory> {
     for section in OUTCOMES.split("# ") {
-        text_is(&rt, outcomes(rt.alloc(), section), section)?;
+        written_is(&rt, section, outcomes(rt.alloc(), section)?, section);
     }
     Ok(())
 }
@@ -434,25 +461,25 @@ Blocked
 places => Top=1? Other=0 p=0 
 ";
 
-#[test]
-fn effects_are_seen(rt: HostRuntime) -> Result<(), NoMemory> {
-    for row in &[
-        (VALID, EFFECTS_VALID),
-        (RETIRED, EFFECTS_RETIRED),
-        (INVALID, EFFECTS_INVALID),
-    ] {
-        let (before, rows) = *row;
-        for row in rows.split("# ") {
-            if !row.is_empty() {
-                let (statement, want) = row.split_once("\n").unwrap_or((row, "?"));
-                row_is(
-                    &rt,
-                    statement,
-                    statement_text(rt.alloc(), statement, before),
-                    want,
-                )?;
-            }
-        }
+// Fails a test where a statement after some moves has another effect.
+fn effect_is(rt: &impl Abort, alloc: Global, before: &str, row: &str) -> Result<(), NoMemory> {
+    let (statement, want) = row.split_once("\n").unwrap_or((row, "?"));
+    let have = ran_statement(alloc, statement, before)?;
+    assert_eq!(rt; answer_in(have.as_str()), want, "{statement}");
+    Ok(())
+}
+
+// The rows of a table; before the first stands nothing.
+fn effects_are(rt: &impl Abort, alloc: Global, before: &str, rows: &str) -> Result<(), NoMemory> {
+    for row in rows.split("# ").skip(1) {
+        effect_is(rt, alloc, before, row)?;
     }
     Ok(())
+}
+
+#[test]
+fn effects_are_seen(rt: HostRuntime) -> Result<(), NoMemory> {
+    effects_are(&rt, rt.alloc(), VALID, EFFECTS_VALID)?;
+    effects_are(&rt, rt.alloc(), RETIRED, EFFECTS_RETIRED)?;
+    effects_are(&rt, rt.alloc(), INVALID, EFFECTS_INVALID)
 }

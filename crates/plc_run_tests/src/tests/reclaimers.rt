@@ -3,7 +3,7 @@ ghost use Rattle.std.specs.Prelude.{drop, slice_get, codes, OnOk};
 ghost use Rattle.plc_reclaim.specs.Rows.{ActsAs, list_row};
 
 use crate::tests::moves::{number, numbers};
-use crate::tests::texts::text_is;
+use crate::tests::texts::{Text, written_is};
 use plc_auto::{Event, Scheme};
 use plc_base::{FuncId, NoMemory};
 use plc_reclaim::{ByList, Leak, Reclaimer};
@@ -68,37 +68,54 @@ fn event_of(word: &str) -> Event {
 }
 
 // What a reclaimer picks twice after each event, from its beginning.
+fn put_picks(
+    text: &mut Text,
+    reclaimer: &mut Box<dyn Reclaimer>,
+    word: &str,
+) -> Result<(), NoMemory> {
+    reclaimer.event(event_of(word))?;
+    text.put_numbered(" ", reclaimer.pick().unwrap_or(0));
+    text.put_numbered(" ", reclaimer.pick().unwrap_or(0));
+    Ok(())
+}
+
+// Its name, and then all that it picks.
+fn put_all_picks(
+    text: &mut Text,
+    reclaimer: &mut Box<dyn Reclaimer>,
+    events: &str,
+) -> Result<(), NoMemory> {
+    reclaimer.begin(&[Scheme::Hazard { f: FuncId(1) }])?;
+    text.put(reclaimer.name());
+    for word in events.split(", ") {
+        put_picks(text, reclaimer, word)?;
+    }
+    Ok(())
+}
+
 fn picks(
     alloc: Global,
     reclaimer: &mut Box<dyn Reclaimer>,
     events: &str,
-) -> Result<String, NoMemory> {
-    reclaimer.begin(&[Scheme::Hazard { f: FuncId(1) }])?;
-    let name = reclaimer.name();
-    let mut text = format!(in alloc; "{name}")?;
-    for word in events.split(", ") {
-        reclaimer.event(event_of(word))?;
-        for _again in 0..2 {
-            let address = reclaimer.pick().unwrap_or(0);
-            write!(text, " {address}")?;
-        }
-    }
+) -> Result<Text, NoMemory> {
+    let mut text = Text::new(alloc);
+    put_all_picks(&mut text, reclaimer, events)?;
     Ok(text)
 }
 
-fn leak_picks(alloc: Global, events: &str) -> Result<String, NoMemory> {
+fn leak_picks(alloc: Global, events: &str) -> Result<Text, NoMemory> {
     let mut reclaimer: Box<dyn Reclaimer> = Box::new(alloc, Leak::new(alloc))?;
     picks(alloc, &mut reclaimer, events)
 }
 
 // The same twice, since a reclaimer begins anew.
-fn list_picks(alloc: Global, events: &str) -> Result<String, NoMemory> {
+fn list_picks(alloc: Global, events: &str) -> Result<Text, NoMemory> {
     let mut reclaimer: Box<dyn Reclaimer> = Box::new(alloc, ByList::new(alloc))?;
     let _first = picks(alloc, &mut reclaimer, events)?;
     picks(alloc, &mut reclaimer, events)
 }
 
-fn listed_picks(alloc: Global, list: &str, events: &str) -> Result<String, NoMemory> {
+fn listed_picks(alloc: Global, list: &str, events: &str) -> Result<Text, NoMemory> {
     let next = Vec::new(alloc);
     let list = numbers(alloc, list)?;
     let mut reclaimer: Box<dyn Reclaimer> = Box::new(alloc, Listed { alloc, list, next })?;
@@ -126,17 +143,24 @@ fn reclaimers_pick_what_they_say(rt: HostRuntime) -> Result<(), NoMemory> {
     let alloc = rt.alloc();
     let events =
         "call 1 3, call 0, call 0 0, call 0 2, call 0 1, call 0 2, done 0, free 3, free 2, call 0 2, free 1";
-    text_is(
+    written_is(
         &rt,
-        list_picks(alloc, events),
+        "",
+        list_picks(alloc, events)?,
         "list 0 0 0 0 0 0 2 2 2 2 2 2 2 2 2 2 1 1 1 1 2 2",
-    )?;
-    text_is(&rt, leak_picks(alloc, "call 0 1, free 1"), "leak 0 0 0 0")?;
-    text_is(
+    );
+    written_is(
         &rt,
-        listed_picks(alloc, "7 5 6", "call 0 1, free 1"),
+        "",
+        leak_picks(alloc, "call 0 1, free 1")?,
+        "leak 0 0 0 0",
+    );
+    written_is(
+        &rt,
+        "",
+        listed_picks(alloc, "7 5 6", "call 0 1, free 1")?,
         "listed 7 5 6 0",
-    )?;
+    );
     assert_eq!(rt; boxed_pick(alloc)?, Some(4));
     Ok(())
 }

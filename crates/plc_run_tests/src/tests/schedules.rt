@@ -1,40 +1,51 @@
 // Schedules with their entries, or the first line that is none.
-use crate::tests::texts::{row_is, text_is};
+use crate::tests::texts::{Text, written_is};
 use plc_base::LARGEST_SCHEDULE;
 use plc_sched::{Entry, SchedFault, Schedule, read_schedule};
-use plc_testing::put;
-use std::alloc::{AllocError, Global};
+use std::alloc::Global;
 
-// An entry, as its line would be written.
-fn entry_text(alloc: Global, entry: &Entry) -> Result<String, AllocError> {
-    match entry {
-        Entry::Start { t, op, args } => {
-            let op = str::from_utf8(op.as_slice()).unwrap_or("?");
-            let mut text = format!(in alloc; "start {t} {op}")?;
-            for arg in args.as_slice() {
-                write!(text, " {arg}")?;
-            }
-            Ok(text)
-        }
-        Entry::Step { t, nth, addr: None } => format!(in alloc; "step {t} {nth}"),
-        Entry::Step {
-            t,
-            nth,
-            addr: Some(addr),
-        } => format!(in alloc; "step {t} {nth} {addr}"),
-        Entry::Return { t } => format!(in alloc; "return {t}"),
-        Entry::Tick => format!(in alloc; "tick"),
+fn put_start(text: &mut Text, t: u32, op: &[u8], args: &[u32]) {
+    text.put_numbered("start ", t);
+    text.put(" ");
+    text.put(str::from_utf8(op).unwrap_or("?"));
+    for arg in args {
+        text.put_numbered(" ", *arg);
     }
 }
 
-fn schedule_text(alloc: Global, schedule: &Schedule) -> Result<String, AllocError> {
-    let threads = schedule.threads;
-    let mut all = format!(in alloc; "threads {threads}\n")?;
-    for entry in schedule.entries.as_slice() {
-        put(&mut all, entry_text(alloc, entry))?;
-        all.push('\n')?;
+fn put_step(text: &mut Text, t: u32, nth: u16, addr: Option<u32>) {
+    text.put_numbered("step ", t);
+    text.put_numbered(" ", u32::from(nth));
+    if let Some(addr) = addr {
+        text.put_numbered(" ", addr);
     }
-    Ok(all)
+}
+
+// An entry, as its line would be written.
+fn put_entry(text: &mut Text, entry: &Entry) {
+    match entry {
+        Entry::Start { t, op, args } => put_start(text, *t, op.as_slice(), args.as_slice()),
+        Entry::Step { t, nth, addr } => put_step(text, *t, *nth, *addr),
+        Entry::Return { t } => text.put_numbered("return ", *t),
+        Entry::Tick => text.put("tick"),
+    }
+}
+
+fn put_schedule(text: &mut Text, schedule: &Schedule) {
+    text.put_numbered("threads ", schedule.threads);
+    text.put("\n");
+    for entry in schedule.entries.as_slice() {
+        put_entry(text, entry);
+        text.put("\n");
+    }
+}
+
+fn put_fault(text: &mut Text, fault: SchedFault) {
+    match fault {
+        SchedFault::Line { n } => text.put_numbered("line ", n),
+        SchedFault::Limit { count } => text.put_numbered("limit ", count),
+        SchedFault::Memory => text.put("memory"),
+    }
 }
 
 pub(crate) fn read(alloc: Global, text: &str) -> Result<Schedule, SchedFault> {
@@ -45,27 +56,34 @@ pub(crate) fn read(alloc: Global, text: &str) -> Result<Schedule, SchedFault> {
 }
 
 // The entries of a schedule, or its fault.
-fn scheduled(alloc: Global, text: &str) -> Result<String, AllocError> {
-    match read(alloc, text) {
-        Ok(schedule) => schedule_text(alloc, &schedule),
-        Err(SchedFault::Line { n }) => format!(in alloc; "line {n}"),
-        Err(SchedFault::Limit { count }) => format!(in alloc; "limit {count}"),
-        Err(SchedFault::Memory) => Err(AllocError),
+fn scheduled(alloc: Global, written: &str) -> Text {
+    let mut text = Text::new(alloc);
+    match read(alloc, written) {
+        Ok(schedule) => put_schedule(&mut text, &schedule),
+        Err(fault) => put_fault(&mut text, fault),
     }
+    text
 }
 
 // How many entries there are, or the fault.
-fn counted(alloc: Global, first: &str, lines: u32) -> Result<String, AllocError> {
-    let mut text = String::from_str(alloc, first)?;
-    for _ in 0..lines {
-        text.push_str("tick\n")?;
-    }
-    let all = scheduled(alloc, text.as_str())?;
-    if all.as_str() == text.as_str() {
-        String::from_str(alloc, "the same")
+fn put_counted(alloc: Global, text: &mut Text, written: &str) {
+    let all = scheduled(alloc, written);
+    text.put(if all.as_str() == written {
+        "the same"
     } else {
-        Ok(all)
+        all.as_str()
+    });
+}
+
+fn counted(alloc: Global, first: &str, lines: u32) -> Text {
+    let mut written = Text::new(alloc);
+    written.put(first);
+    for _ in 0..lines {
+        written.put("tick\n");
     }
+    let mut text = Text::new(alloc);
+    put_counted(alloc, &mut text, written.as_str());
+    text
 }
 
 // Schedules that are read as they are written.
@@ -132,28 +150,30 @@ const SCHEDULES: &[(&str, &str)] = &[
 ];
 
 #[test]
-fn schedules_are_read_as_they_are_written(rt: HostRuntime) -> Result<(), AllocError> {
+fn schedules_are_read_as_they_are_written(rt: HostRuntime) {
     let alloc = rt.alloc();
     for row in WRITTEN {
         let text = *row;
-        text_is(&rt, scheduled(alloc, text), text)?;
+        written_is(&rt, text, scheduled(alloc, text), text);
     }
-    Ok(())
 }
 
 #[test]
-fn the_first_bad_line_of_a_schedule_is_named(rt: HostRuntime) -> Result<(), AllocError> {
+fn the_first_bad_line_of_a_schedule_is_named(rt: HostRuntime) {
     for row in SCHEDULES {
         let (text, want) = *row;
-        row_is(&rt, text, scheduled(rt.alloc(), text), want)?;
+        written_is(&rt, text, scheduled(rt.alloc(), text), want);
     }
-    Ok(())
 }
 
 #[test]
-fn lines_are_counted_before_they_are_read(rt: HostRuntime) -> Result<(), AllocError> {
+fn lines_are_counted_before_they_are_read(rt: HostRuntime) {
     let alloc = rt.alloc();
-    text_is(&rt, counted(alloc, "threads 1\n", 99_999), "the same")?;
-    text_is(&rt, counted(alloc, "threads 0\n", 100_000), "limit 100001")?;
-    Ok(())
+    written_is(&rt, "", counted(alloc, "threads 1\n", 99_999), "the same");
+    written_is(
+        &rt,
+        "",
+        counted(alloc, "threads 0\n", 100_000),
+        "limit 100001",
+    );
 }

@@ -6,14 +6,15 @@ ghost use Rattle.std.specs.Prelude.{◌≡◌, ◌≤◌, IfOk, length};
 ghost use Rattle.plc_lang.specs.Fit.{FileFits};
 ghost use Rattle.plc_flow.specs.WellFormed.{IsWellFormed, most_step_primitives};
 
-use crate::tests::texts::row_is;
+use crate::tests::texts::{Text, written_is};
 use plc_auto::Observer;
 use plc_base::{Items, NoMemory, OpId, StepId};
+use plc_check::Judged;
 use plc_flow::{Flow, Step};
 use plc_infer::{InferFault, infer};
 use plc_lang::{Prim, Var, count_pointers};
 use plc_suggest::{Spot, SuggestFault, Suggestion, suggest};
-use plc_testing::{EPOCHS, HAZARDS, loaded};
+use plc_testing::{Asked, AskedOfChanged, EPOCHS, HAZARDS, answered, answered_of_changed};
 use std::alloc::{AllocError, Global};
 
 // The most primitives that a step may have, with the claims in front of them.
@@ -102,13 +103,22 @@ fn is_typed(
     }
 }
 
+// Whether there is a typing with these claims, as what is asked of a file.
+#[derive(Clone, Copy)]
+struct TypedWith<'a> {
+    spots: &'a [Spot],
+}
+
+impl<'a> AskedOfChanged<bool> for TypedWith<'a> {
+    fn answer(&self, alloc: Global, judged: &mut Judged) -> Result<bool, NoMemory> {
+        let observer = judged.observer;
+        is_typed(alloc, &mut judged.flow, &observer, self.spots)
+    }
+}
+
 // Whether a file has a typing with these claims beside its own.
 fn typable(alloc: Global, file: &str, spots: &[Spot]) -> Result<bool, NoMemory> {
-    let mut judged = loaded(alloc, file)?;
-    let observer = judged.observer;
-    let typed = is_typed(alloc, &mut judged.flow, &observer, spots);
-    drop(judged);
-    typed
+    answered_of_changed(alloc, file, &TypedWith { spots })
 }
 
 // The claims that are suggested, if any are enough.
@@ -120,11 +130,16 @@ fn found(answer: Result<Suggestion, SuggestFault>) -> Result<Option<Vec<Spot>>, 
     }
 }
 
+struct SuggestedSpots;
+
+impl Asked<Option<Vec<Spot>>> for SuggestedSpots {
+    fn answer(&self, alloc: Global, judged: &Judged) -> Result<Option<Vec<Spot>>, NoMemory> {
+        found(suggest(alloc, &judged.flow, &judged.observer))
+    }
+}
+
 fn suggested(alloc: Global, file: &str) -> Result<Option<Vec<Spot>>, NoMemory> {
-    let judged = loaded(alloc, file)?;
-    let answer = suggest(alloc, &judged.flow, &judged.observer);
-    drop(judged);
-    found(answer)
+    answered(alloc, file, &SuggestedSpots)
 }
 
 // Adds the places in front of a step.
@@ -169,11 +184,16 @@ fn spots_in(alloc: Global, flow: &Flow) -> Result<Vec<Spot>, AllocError> {
     Ok(spots)
 }
 
+struct AllSpots;
+
+impl Asked<Vec<Spot>> for AllSpots {
+    fn answer(&self, alloc: Global, judged: &Judged) -> Result<Vec<Spot>, NoMemory> {
+        Ok(spots_in(alloc, &judged.flow)?)
+    }
+}
+
 fn all_spots(alloc: Global, file: &str) -> Result<Vec<Spot>, NoMemory> {
-    let judged = loaded(alloc, file)?;
-    let spots = spots_in(alloc, &judged.flow);
-    drop(judged);
-    Ok(spots?)
+    answered(alloc, file, &AllSpots)
 }
 
 // A set of places is a number, in which the place with number n counts two to the n.
@@ -275,52 +295,68 @@ fn least(typed: &[bool], count: u32) -> u32 {
 }
 
 // What trying comes to: how many places there are and how many claims would do, then the places that are left.
-fn tried_text(alloc: Global, typed: &[bool], count: u32) -> Result<String, AllocError> {
+fn put_tried(text: &mut Text, typed: &[bool], count: u32) {
     let all = bit(count).wrapping_sub(1);
-    if !is_typed_by(typed, all) {
-        let parts = parts(typed, all);
-        return format!(in alloc; "{count} places, {parts} do; none");
+    text.put_numbered("", count);
+    if is_typed_by(typed, all) {
+        put_left(text, typed, count);
+    } else {
+        text.put_numbered(" places, ", parts(typed, all));
+        text.put(" do; none");
     }
+}
+
+fn put_left(text: &mut Text, typed: &[bool], count: u32) {
     let set = left(typed, count);
-    let least = least(typed, count);
-    let mut text = format!(in alloc; "{count} places, {least} can do;")?;
+    text.put_numbered(" places, ", least(typed, count));
+    text.put(" can do;");
     for number in 0..count {
         if has(set, number) {
-            write!(text, " {number}")?;
+            text.put_numbered(" ", number);
         }
     }
     if parts(typed, set) != 1 {
-        text.push_str(" or less")?;
+        text.put(" or less");
     }
-    Ok(text)
 }
 
-fn tried(alloc: Global, file: &str) -> Result<String, NoMemory> {
+fn tried_text(alloc: Global, typed: &[bool], count: u32) -> Text {
+    let mut text = Text::new(alloc);
+    put_tried(&mut text, typed, count);
+    text
+}
+
+fn tried(alloc: Global, file: &str) -> Result<Text, NoMemory> {
     let spots = all_spots(alloc, file)?;
     let typed = all_sets(alloc, file, &spots)?;
-    Ok(tried_text(alloc, &typed, count_of(&spots))?)
+    Ok(tried_text(alloc, &typed, count_of(&spots)))
 }
 
 // The numbers of some places among all.
-fn numbers_text(alloc: Global, all: &[Spot], some: &[Spot]) -> Result<String, AllocError> {
-    let mut text = String::new(alloc);
+fn put_numbers(text: &mut Text, all: &[Spot], some: &[Spot]) {
     let mut number = 0u32;
     for spot in all {
         if some.contains(spot) {
-            write!(text, " {number}")?;
+            text.put_numbered(" ", number);
         }
         number = number.wrapping_add(1);
     }
-    Ok(text)
+}
+
+fn put_suggested(text: &mut Text, all: &[Spot], some: Option<Vec<Spot>>) {
+    match some {
+        Some(some) => put_numbers(text, all, &some),
+        None => text.put(" none"),
+    }
 }
 
 // What is suggested.
-fn suggested_text(alloc: Global, file: &str) -> Result<String, NoMemory> {
+fn suggested_text(alloc: Global, file: &str) -> Result<Text, NoMemory> {
+    let some = suggested(alloc, file)?;
     let all = all_spots(alloc, file)?;
-    match suggested(alloc, file)? {
-        Some(some) => Ok(numbers_text(alloc, &all, &some)?),
-        None => Ok(String::from_str(alloc, " none")?),
-    }
+    let mut text = Text::new(alloc);
+    put_suggested(&mut text, &all, some);
+    Ok(text)
 }
 
 // Files with what trying comes to. In the last but one a claim before the first branch would do for both, but a place
@@ -343,27 +379,31 @@ fn suggested_claims_are_those_that_trying_leaves(rt: HostRuntime) -> Result<(), 
     for row in TRIED.lines() {
         let (file, want) = row.split_once(" => ").unwrap_or((row, ""));
         let (_, left) = want.split_once(";").unwrap_or(("", ""));
-        row_is(&rt, file, tried(rt.alloc(), file), want)?;
-        row_is(&rt, file, suggested_text(rt.alloc(), file), left)?;
+        written_is(&rt, file, tried(rt.alloc(), file)?, want);
+        written_is(&rt, file, suggested_text(rt.alloc(), file)?, left);
     }
     Ok(())
 }
 
 // A text without the claims that stand in it: `active` goes in front of an argument, and else with its pointer.
-fn without_claims(alloc: Global, file: &str) -> Result<String, AllocError> {
-    let mut text = String::new(alloc);
+fn without_claims(alloc: Global, file: &str) -> Text {
+    let mut text = Text::new(alloc);
     let mut is_first = true;
     for piece in file.split("active ") {
-        let (name, rest) = piece.split_once(";").unwrap_or((piece, ""));
-        let kept = if is_first || name.contains(")") {
-            piece
-        } else {
-            rest
-        };
-        text.push_str(kept)?;
+        text.put(if is_first { piece } else { kept(piece) });
         is_first = false;
     }
-    Ok(text)
+    text
+}
+
+// What is kept of a piece after a claim.
+fn kept(piece: &str) -> &str {
+    match piece.split_once(";") {
+        Some((name, rest)) if !name.contains(")") => rest,
+        Some(_) => piece,
+        None if piece.contains(")") => piece,
+        None => "",
+    }
 }
 
 // How often a file has a typing where one of some claims is left out.
@@ -389,31 +429,37 @@ fn all_but(alloc: Global, spots: &[Spot], one: Spot) -> Result<Vec<Spot>, AllocE
 }
 
 // How many claims are suggested, whether they do, and how many of them could be spared.
-fn spared_text(alloc: Global, file: &str, spots: &[Spot]) -> Result<String, NoMemory> {
-    let count = spots.len();
-    let none = typable(alloc, file, &[])?;
-    let all = typable(alloc, file, spots)?;
-    let spared = typed_without_one(alloc, file, spots)?;
-    Ok(format!(in alloc; "{none} {count} {all} {spared}")?)
+fn put_spared(alloc: Global, text: &mut Text, file: &str, spots: &[Spot]) -> Result<(), NoMemory> {
+    text.put_word(typable(alloc, file, &[])?);
+    text.put(" ");
+    text.put_number(spots.len() as u64);
+    text.put(" ");
+    text.put_word(typable(alloc, file, spots)?);
+    text.put_numbered(" ", typed_without_one(alloc, file, spots)?);
+    Ok(())
 }
 
-// The same for a text whose claims are taken out.
-fn replaced(alloc: Global, pieces: &[&str]) -> Result<String, NoMemory> {
-    let text = pieces.concat(alloc)?;
-    let file = without_claims(alloc, text.as_str());
-    drop(text);
-    let file = file?;
-    match suggested(alloc, file.as_str())? {
-        Some(spots) => spared_text(alloc, file.as_str(), &spots),
-        None => Ok(String::from_str(alloc, "none")?),
+fn put_replaced(alloc: Global, text: &mut Text, file: &str) -> Result<(), NoMemory> {
+    match suggested(alloc, file)? {
+        Some(spots) => put_spared(alloc, text, file, &spots),
+        None => Ok(()),
     }
+}
+
+// The same for a text whose claims are taken out; nothing, where none are suggested.
+fn replaced(alloc: Global, pieces: &[&str]) -> Result<Text, NoMemory> {
+    let whole = pieces.concat(alloc)?;
+    let file = without_claims(alloc, whole.as_str());
+    let mut text = Text::new(alloc);
+    put_replaced(alloc, &mut text, file.as_str())?;
+    Ok(text)
 }
 
 #[test]
 fn suggested_claims_stand_in_for_those_taken_out(rt: HostRuntime) -> Result<(), NoMemory> {
     let alloc = rt.alloc();
-    row_is(&rt, "", replaced(alloc, &HAZARDS), "false 4 true 0")?;
-    row_is(&rt, "", replaced(alloc, &EPOCHS), "false 4 true 0")?;
-    row_is(&rt, "", replaced(alloc, &[MAILBOX]), "false 2 true 0")?;
+    written_is(&rt, "", replaced(alloc, &HAZARDS)?, "false 4 true 0");
+    written_is(&rt, "", replaced(alloc, &EPOCHS)?, "false 4 true 0");
+    written_is(&rt, "", replaced(alloc, &[MAILBOX])?, "false 2 true 0");
     Ok(())
 }

@@ -4,14 +4,13 @@ ghost use Rattle.std.specs.Prelude.{IfOk};
 ghost use Rattle.plc_xfer.specs.Rules.{FitsObserver};
 
 use crate::tests::observers::{push_set, set_of};
-use crate::tests::texts::{row_is, text_is};
+use crate::tests::texts::{Text, written_is};
 use plc_auto::Observer;
 use plc_base::{FieldId, FuncId, Items, Mask, NoMemory};
 use plc_lang::{Arg, GhostVal, Num, Prim, Rel, Var};
 use plc_type::{Env, Guar, PtrType, below, env_below, env_join, join};
 use plc_xfer::{TypeFault, apply, condition, interfere};
-use std::alloc::{AllocError, Global};
-use std::process::Abort;
+use std::alloc::Global;
 
 fn typed(g: Guar, digits: &str) -> PtrType {
     PtrType {
@@ -49,66 +48,79 @@ fn guarantee_text(g: &Guar) -> &'static str {
     "?"
 }
 
-fn push_type(text: &mut String, of: &PtrType) -> Result<(), AllocError> {
-    text.push_str(guarantee_text(&of.g))?;
-    push_set(text, &of.m)?;
-    text.push(' ')
+fn push_type(text: &mut Text, of: &PtrType) {
+    text.put(guarantee_text(&of.g));
+    push_set(text, &of.m);
+    text.put(" ");
+}
+
+fn push_types(text: &mut Text, types: &[PtrType]) {
+    for of in types {
+        push_type(text, of);
+    }
+    text.put("/ ");
 }
 
 // The shared pointers, the locals, and where any address may stand.
-pub(crate) fn push_env(text: &mut String, env: &Env) -> Result<(), AllocError> {
-    for of in env.shared.as_slice() {
-        push_type(text, of)?;
-    }
-    text.push_str("/ ")?;
-    for of in env.locals.as_slice() {
-        push_type(text, of)?;
-    }
-    text.push_str("/ ")?;
-    push_set(text, &env.w)
+pub(crate) fn push_env(text: &mut Text, env: &Env) {
+    push_types(text, env.shared.as_slice());
+    push_types(text, env.locals.as_slice());
+    push_set(text, &env.w);
 }
 
-fn env_text(alloc: Global, env: &Env) -> Result<String, NoMemory> {
-    let mut text = String::new(alloc);
-    push_env(&mut text, env)?;
-    Ok(text)
+fn env_text(alloc: Global, env: &Env) -> Text {
+    let mut text = Text::new(alloc);
+    push_env(&mut text, env);
+    text
 }
 
-// What two sets of guarantees have in common, what either has, and whether the first is within the second.
-fn chain_text(alloc: Global, g: &Guar, h: &Guar) -> Result<String, AllocError> {
-    let common = guarantee_text(&g.common(h));
-    let either = guarantee_text(&g.either(h));
-    let active = guarantee_text(&g.without_active());
-    let local = guarantee_text(&g.without_local());
-    let within = g.within(h);
-    format!(in alloc; "{common} {either} {within} {active} {local}")
+fn push_word(text: &mut Text, word: bool) {
+    text.put_word(word);
+    text.put(" ");
+}
+
+fn push_guarantee(text: &mut Text, g: &Guar) {
+    text.put(guarantee_text(g));
+    text.put(" ");
+}
+
+// What two sets of guarantees have in common, what either has, whether the first is within the second, and the first
+// without two guarantees.
+fn chain_text(alloc: Global, g: &Guar, h: &Guar) -> Text {
+    let mut text = Text::new(alloc);
+    push_guarantee(&mut text, &g.common(h));
+    push_guarantee(&mut text, &g.either(h));
+    push_word(&mut text, g.within(h));
+    push_guarantee(&mut text, &g.without_active());
+    push_guarantee(&mut text, &g.without_local());
+    text
 }
 
 // What two types join to, and whether the first is below the second.
-fn join_text(alloc: Global, a: &PtrType, b: &PtrType) -> Result<String, AllocError> {
-    let mut text = String::new(alloc);
-    push_type(&mut text, &join(a, b))?;
-    text.push_str(if below(a, b) { "below" } else { "not below" })?;
-    Ok(text)
+fn join_text(alloc: Global, a: &PtrType, b: &PtrType) -> Text {
+    let mut text = Text::new(alloc);
+    push_type(&mut text, &join(a, b));
+    text.put(if below(a, b) { "below" } else { "not below" });
+    text
 }
 
 #[test]
-fn guarantees_are_a_chain(rt: HostRuntime) -> Result<(), AllocError> {
+fn guarantees_are_a_chain(rt: HostRuntime) {
     let alloc = rt.alloc();
     for row in &[
-        ("-", "S", "- S true - -"),
-        ("S", "-", "- S false S S"),
-        ("S", "AS", "S AS true S S"),
-        ("AS", "S", "S AS false S AS"),
-        ("AS", "ALS", "AS ALS true S AS"),
-        ("ALS", "AS", "AS ALS false S AS"),
-        ("ALS", "ALS", "ALS ALS true S AS"),
-        ("ALS", "-", "- ALS false S AS"),
+        ("-", "S", "- S true - - "),
+        ("S", "-", "- S false S S "),
+        ("S", "AS", "S AS true S S "),
+        ("AS", "S", "S AS false S AS "),
+        ("AS", "ALS", "AS ALS true S AS "),
+        ("ALS", "AS", "AS ALS false S AS "),
+        ("ALS", "ALS", "ALS ALS true S AS "),
+        ("ALS", "-", "- ALS false S AS "),
     ] {
         let (g, h, want) = *row;
-        text_is(&rt, chain_text(alloc, &type_of(g).g, &type_of(h).g), want)?;
+        let text = chain_text(alloc, &type_of(g).g, &type_of(h).g);
+        written_is(&rt, g, text, want);
     }
-    Ok(())
 }
 
 const JOINS: &str = "\
@@ -121,35 +133,35 @@ ALS0 -0 => -0 below
 ";
 
 // What the two types of a text join to.
-fn join_of(alloc: Global, types: &str) -> Result<String, AllocError> {
+fn join_of(alloc: Global, types: &str) -> Text {
     let (a, b) = types.split_once(" ").unwrap_or((types, ""));
     join_text(alloc, &type_of(a), &type_of(b))
 }
 
 #[test]
-fn types_are_ordered(rt: HostRuntime) -> Result<(), AllocError> {
+fn types_are_ordered(rt: HostRuntime) {
     for row in JOINS.lines() {
         let (types, want) = row.split_once(" => ").unwrap_or((row, "?"));
-        row_is(&rt, types, join_of(rt.alloc(), types), want)?;
+        written_is(&rt, types, join_of(rt.alloc(), types), want);
     }
-    Ok(())
 }
 
 // The least environment, of two shared pointers and three locals.
-fn bottom_text(alloc: Global) -> Result<String, NoMemory> {
+fn bottom_text(alloc: Global) -> Result<Text, NoMemory> {
     let env = Env::bottom(alloc, 2, 3)?;
-    env_text(alloc, &env)
+    Ok(env_text(alloc, &env))
+}
+
+// A copy of an environment.
+fn copy_text(alloc: Global, env: &Env) -> Result<Text, NoMemory> {
+    let copy = env.copy(alloc)?;
+    Ok(env_text(alloc, &copy))
 }
 
 // A copy of the environment of an entry.
-fn entry_text(alloc: Global) -> Result<String, NoMemory> {
+fn entry_text(alloc: Global) -> Result<Text, NoMemory> {
     let entry = Env::entry(alloc, 2, 3, &Mask::full(2))?;
-    let copy = entry.copy(alloc);
-    drop(entry);
-    let copy = copy?;
-    let text = env_text(alloc, &copy);
-    drop(copy);
-    text
+    copy_text(alloc, &entry)
 }
 
 // Whether a join changes the first of two environments for the same pointers.
@@ -164,32 +176,33 @@ fn joined(into: &mut Env, other: &Env) -> bool {
 }
 
 // Whether one is below the other, whether their join changes it, and what it comes to.
-fn joined_text(alloc: Global, bottom: &mut Env, entry: &Env) -> Result<String, NoMemory> {
-    let before = env_below(bottom, entry);
-    let after = env_below(entry, bottom);
-    let changed = joined(bottom, entry);
-    let again = joined(bottom, entry);
-    let mut text = format!(in alloc; "{before} {after} {changed} {again} ")?;
-    push_env(&mut text, bottom)?;
-    Ok(text)
+fn joined_text(alloc: Global, bottom: &mut Env, entry: &Env) -> Text {
+    let mut text = Text::new(alloc);
+    push_word(&mut text, env_below(bottom, entry));
+    push_word(&mut text, env_below(entry, bottom));
+    push_word(&mut text, joined(bottom, entry));
+    push_word(&mut text, joined(bottom, entry));
+    push_env(&mut text, bottom);
+    text
 }
 
-fn both_joined(alloc: Global) -> Result<String, NoMemory> {
+fn both_joined(alloc: Global) -> Result<Text, NoMemory> {
     let mut bottom = Env::bottom(alloc, 2, 3)?;
     let entry = Env::entry(alloc, 2, 3, &Mask::full(2))?;
-    joined_text(alloc, &mut bottom, &entry)
+    Ok(joined_text(alloc, &mut bottom, &entry))
 }
 
 #[test]
 fn environments_join_part_by_part(rt: HostRuntime) -> Result<(), NoMemory> {
     let alloc = rt.alloc();
-    text_is(&rt, bottom_text(alloc), "- - / ALS ALS ALS / ")?;
-    text_is(&rt, entry_text(alloc), "-01 -01 / ALS ALS ALS / 01")?;
-    text_is(
+    written_is(&rt, "", bottom_text(alloc)?, "- - / ALS ALS ALS / ");
+    written_is(&rt, "", entry_text(alloc)?, "-01 -01 / ALS ALS ALS / 01");
+    written_is(
         &rt,
-        both_joined(alloc),
+        "",
+        both_joined(alloc)?,
         "true false true false -01 -01 / ALS ALS ALS / 01",
-    )?;
+    );
     Ok(())
 }
 
@@ -253,43 +266,97 @@ fn applied(
     observer: &Observer,
     before: &str,
     prim: &Prim,
-) -> Result<String, NoMemory> {
+) -> Result<Text, NoMemory> {
     let mut env = given(alloc, observer, before)?;
     apply(&mut env, prim, observer);
-    env_text(alloc, &env)
+    Ok(env_text(alloc, &env))
 }
 
 // What a primitive makes of `-01 S01 ALS0`.
-const EFFECTS: &[(Prim, &str)] = &[
-    (Prim::Null { p: P }, "-01 / ALS ALS0 / 01"),
-    (Prim::Copy { p: P, q: Q }, "-01 / AS0 AS0 / 01"),
-    (Prim::Copy { p: Q, q: Q }, "-01 / S01 AS0 / 01"),
-    (Prim::Mark { p: P, q: Q }, "-01 / AS0 AS0 / 01"),
-    (Prim::Mark { p: Q, q: Q }, "-01 / S01 AS0 / 01"),
-    (Prim::Unmark { p: P, q: Q }, "-01 / AS0 AS0 / 01"),
-    (Prim::Unmark { p: Q, q: Q }, "-01 / S01 AS0 / 01"),
-    (Prim::MarkTest { p: P, yes: true }, "-01 / S01 ALS0 / 01"),
-    (Prim::MarkTest { p: Q, yes: false }, "-01 / S01 ALS0 / 01"),
-    (Prim::New { p: P }, "-01 / ALS0 ALS0 / 01"),
-    (Prim::Load { p: Q, q: P, f: F }, "-01 / S01 -01 / 01"),
-    (Prim::Store { p: P, f: F, q: Q }, "-01 / S01 AS0 / 01"),
-    (Prim::Eq { p: P, q: Q }, "-01 / ALS0 ALS0 / 01"),
-    (Prim::IsNull { p: P }, "-01 / ALS ALS0 / 01"),
-    (Prim::Refresh { p: 0, q: Q }, "-01 / AS0 AS0 / 01"),
-    (Prim::Refresh { p: 1, q: Q }, "-01 / S01 AS0 / 01"),
-    (Prim::RefreshLoad { p: 1, q: P, f: F }, "-01 / S01 -0 / 01"),
+const EFFECTS: &[(&str, Prim, &str)] = &[
+    ("p := null", Prim::Null { p: P }, "-01 / ALS ALS0 / 01"),
+    ("p := q", Prim::Copy { p: P, q: Q }, "-01 / AS0 AS0 / 01"),
+    ("q := q", Prim::Copy { p: Q, q: Q }, "-01 / S01 AS0 / 01"),
     (
+        "p := mark q",
+        Prim::Mark { p: P, q: Q },
+        "-01 / AS0 AS0 / 01",
+    ),
+    (
+        "q := mark q",
+        Prim::Mark { p: Q, q: Q },
+        "-01 / S01 AS0 / 01",
+    ),
+    (
+        "p := unmark q",
+        Prim::Unmark { p: P, q: Q },
+        "-01 / AS0 AS0 / 01",
+    ),
+    (
+        "q := unmark q",
+        Prim::Unmark { p: Q, q: Q },
+        "-01 / S01 AS0 / 01",
+    ),
+    (
+        "marked p",
+        Prim::MarkTest { p: P, yes: true },
+        "-01 / S01 ALS0 / 01",
+    ),
+    (
+        "unmarked q",
+        Prim::MarkTest { p: Q, yes: false },
+        "-01 / S01 ALS0 / 01",
+    ),
+    ("p := new", Prim::New { p: P }, "-01 / ALS0 ALS0 / 01"),
+    (
+        "q := p.f",
+        Prim::Load { p: Q, q: P, f: F },
+        "-01 / S01 -01 / 01",
+    ),
+    (
+        "p.f := q",
+        Prim::Store { p: P, f: F, q: Q },
+        "-01 / S01 AS0 / 01",
+    ),
+    ("p == q", Prim::Eq { p: P, q: Q }, "-01 / ALS0 ALS0 / 01"),
+    ("p == null", Prim::IsNull { p: P }, "-01 / ALS ALS0 / 01"),
+    ("p ?= q", Prim::Refresh { p: 0, q: Q }, "-01 / AS0 AS0 / 01"),
+    ("q ?= q", Prim::Refresh { p: 1, q: Q }, "-01 / S01 AS0 / 01"),
+    (
+        "q ?= p.f",
+        Prim::RefreshLoad { p: 1, q: P, f: F },
+        "-01 / S01 -0 / 01",
+    ),
+    (
+        "p.f ?= q",
         Prim::RefreshStore { p: P, f: F, q: Q },
         "-01 / S01 AS0 / 01",
     ),
-    (Prim::Active { p: P }, "-01 / AS0 ALS0 / 01"),
-    (Prim::StoreNull { p: P, f: F }, "-01 / S01 ALS0 / 01"),
-    (Prim::DataSet { x: 0, e: E }, "-01 / S01 ALS0 / 01"),
-    (Prim::DataLoad { x: 0, q: P, f: F }, "-01 / S01 ALS0 / 01"),
-    (Prim::DataStore { p: P, f: F, e: E }, "-01 / S01 ALS0 / 01"),
-    (Prim::Ne { p: P, q: Q }, "-01 / S01 ALS0 / 01"),
-    (Prim::NotNull { p: P }, "-01 / S01 ALS0 / 01"),
+    ("active p", Prim::Active { p: P }, "-01 / AS0 ALS0 / 01"),
     (
+        "p.f := null",
+        Prim::StoreNull { p: P, f: F },
+        "-01 / S01 ALS0 / 01",
+    ),
+    (
+        "x := 7",
+        Prim::DataSet { x: 0, e: E },
+        "-01 / S01 ALS0 / 01",
+    ),
+    (
+        "x := p.f",
+        Prim::DataLoad { x: 0, q: P, f: F },
+        "-01 / S01 ALS0 / 01",
+    ),
+    (
+        "p.f := 7",
+        Prim::DataStore { p: P, f: F, e: E },
+        "-01 / S01 ALS0 / 01",
+    ),
+    ("p != q", Prim::Ne { p: P, q: Q }, "-01 / S01 ALS0 / 01"),
+    ("p != null", Prim::NotNull { p: P }, "-01 / S01 ALS0 / 01"),
+    (
+        "x < 7",
         Prim::DataTest {
             rel: Rel::Lt,
             x: 0,
@@ -298,6 +365,7 @@ const EFFECTS: &[(Prim, &str)] = &[
         "-01 / S01 ALS0 / 01",
     ),
     (
+        "ghost p.g := me",
         Prim::Ghost {
             p: P,
             g: 0,
@@ -307,24 +375,11 @@ const EFFECTS: &[(Prim, &str)] = &[
     ),
 ];
 
-// Fails a test where a primitive leaves other types.
-fn effect_is(
-    rt: &impl Abort,
-    prim: &Prim,
-    want: &str,
-    have: Result<String, NoMemory>,
-) -> Result<(), NoMemory> {
-    let have = have?;
-    assert_eq!(rt; have.as_str(), want, "{prim:?}");
-    Ok(())
-}
-
 #[test]
 fn primitives_have_their_effects(rt: HostRuntime) -> Result<(), NoMemory> {
-    for row in EFFECTS {
-        let (prim, want) = *row;
-        let have = applied(rt.alloc(), &Observer::Plain, "-01 S01 ALS0", &prim);
-        effect_is(&rt, &prim, want, have)?;
+    for (row, prim, want) in EFFECTS {
+        let have = applied(rt.alloc(), &Observer::Plain, "-01 S01 ALS0", prim)?;
+        written_is(&rt, row, have, want);
     }
     Ok(())
 }
@@ -334,9 +389,10 @@ const HAZARD: Observer = Observer::Hazard(PROTECT);
 const EPOCH: Observer = Observer::Epoch(PROTECT, LEAVE);
 
 // What a call, or its return, makes of `-0123456 AS2 ALS0`.
-const CALLS: &[(Observer, Prim, &str)] = &[
+const CALLS: &[(Observer, &str, Prim, &str)] = &[
     (
         HAZARD,
+        "protect(p)",
         Prim::Call {
             func: PROTECT,
             arg: Arg::Var(P),
@@ -345,6 +401,7 @@ const CALLS: &[(Observer, Prim, &str)] = &[
     ),
     (
         HAZARD,
+        "protect(q)",
         Prim::Call {
             func: PROTECT,
             arg: Arg::Var(Q),
@@ -353,6 +410,7 @@ const CALLS: &[(Observer, Prim, &str)] = &[
     ),
     (
         HAZARD,
+        "protect(null)",
         Prim::Call {
             func: PROTECT,
             arg: Arg::Null,
@@ -361,11 +419,13 @@ const CALLS: &[(Observer, Prim, &str)] = &[
     ),
     (
         HAZARD,
+        "return of protect",
         Prim::Done { func: PROTECT },
         "-02356 / AS2 ALS0 / 02356",
     ),
     (
         HAZARD,
+        "retire(p)",
         Prim::Call {
             func: FuncId::RETIRE,
             arg: Arg::Var(P),
@@ -374,6 +434,7 @@ const CALLS: &[(Observer, Prim, &str)] = &[
     ),
     (
         HAZARD,
+        "retire(q)",
         Prim::Call {
             func: FuncId::RETIRE,
             arg: Arg::Var(Q),
@@ -382,6 +443,7 @@ const CALLS: &[(Observer, Prim, &str)] = &[
     ),
     (
         HAZARD,
+        "retire(null)",
         Prim::Call {
             func: FuncId::RETIRE,
             arg: Arg::Null,
@@ -390,6 +452,7 @@ const CALLS: &[(Observer, Prim, &str)] = &[
     ),
     (
         HAZARD,
+        "leave(p)",
         Prim::Call {
             func: LEAVE,
             arg: Arg::Var(P),
@@ -398,6 +461,7 @@ const CALLS: &[(Observer, Prim, &str)] = &[
     ),
     (
         EPOCH,
+        "protect()",
         Prim::Call {
             func: PROTECT,
             arg: Arg::None,
@@ -406,6 +470,7 @@ const CALLS: &[(Observer, Prim, &str)] = &[
     ),
     (
         EPOCH,
+        "leave()",
         Prim::Call {
             func: LEAVE,
             arg: Arg::None,
@@ -416,10 +481,9 @@ const CALLS: &[(Observer, Prim, &str)] = &[
 
 #[test]
 fn calls_have_their_effects(rt: HostRuntime) -> Result<(), NoMemory> {
-    for row in CALLS {
-        let (observer, prim, want) = *row;
-        let have = applied(rt.alloc(), &observer, "-0123456 AS2 ALS0", &prim);
-        effect_is(&rt, &prim, want, have)?;
+    for (observer, row, prim, want) in CALLS {
+        let have = applied(rt.alloc(), observer, "-0123456 AS2 ALS0", prim)?;
+        written_is(&rt, row, have, want);
     }
     Ok(())
 }
@@ -440,29 +504,34 @@ const COMPARE_MISSING: Option<TypeFault> = Some(TypeFault::CompareNotSafe { var:
 const RETIRE_UNSAFE: Option<TypeFault> = Some(TypeFault::RetireNotActive { var: P });
 
 // Primitives with the fault of their condition.
-const CONDITIONS: &[(Prim, Option<TypeFault>)] = &[
-    (Prim::Null { p: Q }, None),
-    (Prim::Copy { p: P, q: Q }, None),
-    (Prim::Mark { p: P, q: Q }, None),
-    (Prim::Unmark { p: Q, q: Q }, None),
-    (Prim::MarkTest { p: Q, yes: true }, None),
-    (Prim::New { p: Q }, None),
-    (Prim::Load { p: P, q: Q, f: F }, DEREF),
-    (Prim::Load { p: Q, q: P, f: F }, None),
-    (Prim::Store { p: Q, f: F, q: P }, DEREF),
-    (Prim::Store { p: P, f: F, q: Q }, None),
-    (Prim::StoreNull { p: Q, f: F }, DEREF),
-    (Prim::DataSet { x: 0, e: E }, None),
-    (Prim::DataLoad { x: 0, q: Q, f: F }, DEREF),
-    (Prim::DataStore { p: Q, f: F, e: E }, DEREF),
-    (Prim::Eq { p: P, q: Q }, COMPARE),
-    (Prim::Eq { p: Q, q: MISSING }, COMPARE),
-    (Prim::Eq { p: P, q: S }, None),
-    (Prim::Ne { p: Q, q: P }, COMPARE),
-    (Prim::Ne { p: MISSING, q: Q }, COMPARE_MISSING),
-    (Prim::IsNull { p: Q }, None),
-    (Prim::NotNull { p: Q }, None),
+const CONDITIONS: &[(&str, Prim, Option<TypeFault>)] = &[
+    ("q := null", Prim::Null { p: Q }, None),
+    ("p := q", Prim::Copy { p: P, q: Q }, None),
+    ("p := mark q", Prim::Mark { p: P, q: Q }, None),
+    ("q := unmark q", Prim::Unmark { p: Q, q: Q }, None),
+    ("marked q", Prim::MarkTest { p: Q, yes: true }, None),
+    ("q := new", Prim::New { p: Q }, None),
+    ("p := q.f", Prim::Load { p: P, q: Q, f: F }, DEREF),
+    ("q := p.f", Prim::Load { p: Q, q: P, f: F }, None),
+    ("q.f := p", Prim::Store { p: Q, f: F, q: P }, DEREF),
+    ("p.f := q", Prim::Store { p: P, f: F, q: Q }, None),
+    ("q.f := null", Prim::StoreNull { p: Q, f: F }, DEREF),
+    ("x := 7", Prim::DataSet { x: 0, e: E }, None),
+    ("x := q.f", Prim::DataLoad { x: 0, q: Q, f: F }, DEREF),
+    ("q.f := 7", Prim::DataStore { p: Q, f: F, e: E }, DEREF),
+    ("p == q", Prim::Eq { p: P, q: Q }, COMPARE),
+    ("q == missing", Prim::Eq { p: Q, q: MISSING }, COMPARE),
+    ("p == s", Prim::Eq { p: P, q: S }, None),
+    ("q != p", Prim::Ne { p: Q, q: P }, COMPARE),
     (
+        "missing != q",
+        Prim::Ne { p: MISSING, q: Q },
+        COMPARE_MISSING,
+    ),
+    ("q == null", Prim::IsNull { p: Q }, None),
+    ("q != null", Prim::NotNull { p: Q }, None),
+    (
+        "x == 7",
         Prim::DataTest {
             rel: Rel::Eq,
             x: 0,
@@ -470,12 +539,13 @@ const CONDITIONS: &[(Prim, Option<TypeFault>)] = &[
         },
         None,
     ),
-    (Prim::Refresh { p: 1, q: Q }, None),
-    (Prim::RefreshLoad { p: 0, q: Q, f: F }, DEREF),
-    (Prim::RefreshLoad { p: 1, q: P, f: F }, None),
-    (Prim::RefreshStore { p: Q, f: F, q: P }, DEREF),
-    (Prim::RefreshStore { p: P, f: F, q: Q }, None),
+    ("q ?= q", Prim::Refresh { p: 1, q: Q }, None),
+    ("p ?= q.f", Prim::RefreshLoad { p: 0, q: Q, f: F }, DEREF),
+    ("q ?= p.f", Prim::RefreshLoad { p: 1, q: P, f: F }, None),
+    ("q.f ?= p", Prim::RefreshStore { p: Q, f: F, q: P }, DEREF),
+    ("p.f ?= q", Prim::RefreshStore { p: P, f: F, q: Q }, None),
     (
+        "protect(q)",
         Prim::Call {
             func: PROTECT,
             arg: Arg::Var(Q),
@@ -483,6 +553,7 @@ const CONDITIONS: &[(Prim, Option<TypeFault>)] = &[
         None,
     ),
     (
+        "retire(s)",
         Prim::Call {
             func: FuncId::RETIRE,
             arg: Arg::Var(S),
@@ -490,6 +561,7 @@ const CONDITIONS: &[(Prim, Option<TypeFault>)] = &[
         None,
     ),
     (
+        "retire(p)",
         Prim::Call {
             func: FuncId::RETIRE,
             arg: Arg::Var(P),
@@ -497,6 +569,7 @@ const CONDITIONS: &[(Prim, Option<TypeFault>)] = &[
         RETIRE_UNSAFE,
     ),
     (
+        "retire(null)",
         Prim::Call {
             func: FuncId::RETIRE,
             arg: Arg::Null,
@@ -504,13 +577,15 @@ const CONDITIONS: &[(Prim, Option<TypeFault>)] = &[
         None,
     ),
     (
+        "return of retire",
         Prim::Done {
             func: FuncId::RETIRE,
         },
         None,
     ),
-    (Prim::Active { p: Q }, None),
+    ("active q", Prim::Active { p: Q }, None),
     (
+        "ghost q.g := none",
         Prim::Ghost {
             p: Q,
             g: 0,
@@ -522,15 +597,15 @@ const CONDITIONS: &[(Prim, Option<TypeFault>)] = &[
 
 #[test]
 fn conditions_name_the_variable(rt: HostRuntime) -> Result<(), NoMemory> {
-    for row in CONDITIONS {
-        let (prim, fault) = *row;
-        assert!(rt; fault_of(rt.alloc(), &prim)? == fault, "{prim:?}");
+    for (row, prim, fault) in CONDITIONS {
+        let have = fault_of(rt.alloc(), prim)?;
+        assert!(rt; have == *fault, "{row}");
     }
     Ok(())
 }
 
 // What interference leaves of a type.
-fn interfered(alloc: Global, observer: &Observer, text: &str) -> Result<String, NoMemory> {
+fn interfered(alloc: Global, observer: &Observer, text: &str) -> Result<Text, NoMemory> {
     let mut env = with_types(
         alloc,
         observer,
@@ -539,7 +614,7 @@ fn interfered(alloc: Global, observer: &Observer, text: &str) -> Result<String, 
         &PtrType::null(),
     )?;
     interfere(&mut env, observer);
-    env_text(alloc, &env)
+    Ok(env_text(alloc, &env))
 }
 
 #[test]
@@ -557,12 +632,8 @@ fn interference_leaves_what_no_other_thread_takes(rt: HostRuntime) -> Result<(),
         ("-2", HAZARD, "-0123456 / -26 ALS / 0123456"),
     ] {
         let (before, observer, after) = *row;
-        row_is(
-            &rt,
-            before,
-            interfered(rt.alloc(), &observer, before),
-            after,
-        )?;
+        let have = interfered(rt.alloc(), &observer, before)?;
+        written_is(&rt, before, have, after);
     }
     Ok(())
 }

@@ -2,41 +2,49 @@
 ghost use Rattle.plc_lang.specs.Fit.{FileFits};
 ghost use Rattle.plc_flow.specs.WellFormed.{FlowFits};
 
-use crate::tests::texts::row_is;
+use crate::tests::texts::{Text, written_is};
 use crate::tests::types::push_env;
 use plc_base::NoMemory;
 use plc_check::Judged;
-use plc_infer::infer;
-use plc_testing::loaded;
+use plc_infer::{InferFault, infer};
+use plc_testing::{Asked, answered};
 use plc_type::Env;
-use std::alloc::{AllocError, Global};
+use std::alloc::Global;
 
 // The types of each point, a line for each.
-fn typing_text(alloc: Global, envs: &[Env]) -> Result<String, AllocError> {
-    let mut text = String::new(alloc);
+fn typing_text(alloc: Global, envs: &[Env]) -> Text {
+    let mut text = Text::new(alloc);
     for env in envs {
-        push_env(&mut text, env)?;
-        text.push('\n')?;
+        push_env(&mut text, env);
+        text.put("\n");
     }
-    Ok(text)
+    text
+}
+
+fn fault_text(alloc: Global, fault: &InferFault) -> Text {
+    let mut text = Text::new(alloc);
+    text.put_text(format!(in alloc; "{fault:?}\n"));
+    text
 }
 
 // The strongest typing of a file.
-fn inferred_in(alloc: Global, judged: &Judged) -> Result<String, AllocError>
+fn inferred_in(alloc: Global, judged: &Judged) -> Text
     requires flow { FlowFits judged.now.flow }
     requires file { FileFits judged.now.flow.file }
 {
     match infer(alloc, &judged.flow, &judged.observer) {
         Ok(typing) => typing_text(alloc, typing.env.as_slice()),
-        Err(fault) => format!(in alloc; "{fault:?}\n"),
+        Err(fault) => fault_text(alloc, &fault),
     }
 }
 
-fn inferred(alloc: Global, text: &str) -> Result<String, NoMemory> {
-    let judged = loaded(alloc, text)?;
-    let types = inferred_in(alloc, &judged);
-    drop(judged);
-    Ok(types?)
+// The strongest typing, as what is asked of a file.
+struct Inferred;
+
+impl Asked<Text> for Inferred {
+    fn answer(&self, alloc: Global, judged: &Judged) -> Result<Text, NoMemory> {
+        Ok(inferred_in(alloc, judged))
+    }
 }
 
 const TYPINGS: &str = "# struct N { } shared T;
@@ -73,7 +81,8 @@ fn each_point_has_its_strongest_types(rt: HostRuntime) -> Result<(), NoMemory> {
     for row in TYPINGS.split("# ") {
         if !row.is_empty() {
             let (file, want) = row.split_once("\n").unwrap_or((row, "?"));
-            row_is(&rt, file, inferred(rt.alloc(), file), want)?;
+            let types = answered(rt.alloc(), file, &Inferred)?;
+            written_is(&rt, file, types, want);
         }
     }
     Ok(())
