@@ -39,6 +39,16 @@ fn line_here(judged: &Judged, verdict: &Verdict) -> u32 {
     }
 }
 
+/// The obligations that stay open, once they are looked for.
+fn push_open_obligations(html: &mut Html, shown: &Shown) -> Written
+    requires { Fits shown.now.judged.now.flow shown.now.judged.now.unit_outline }
+{
+    let open = open_obligations(html.alloc(), shown.judged, MOST_SHOWN)?;
+    let written = push_unproved(html, shown, &open);
+    drop(open);
+    written
+}
+
 /// What the answer is about.
 fn push_reasons(html: &mut Html, shown: &Shown, verdict: &Verdict) -> Written
     requires fits { Fits shown.now.judged.now.flow shown.now.judged.now.unit_outline }
@@ -48,10 +58,7 @@ fn push_reasons(html: &mut Html, shown: &Shown, verdict: &Verdict) -> Written
     match verdict {
         Verdict::Safe { .. } => push_safe(html),
         Verdict::Untyped { step, prim, fault } => push_failure(html, shown, *step, *prim, *fault),
-        Verdict::Unproved { .. } => {
-            let open = open_obligations(html.alloc(), shown.judged, MOST_SHOWN)?;
-            push_unproved(html, shown, &open)
-        }
+        Verdict::Unproved { .. } => push_open_obligations(html, shown),
     }
 }
 
@@ -84,6 +91,17 @@ struct Answered<'a> {
     verdict: &'a Verdict,
 }
 
+/// What follows the answer, for what is shown.
+fn shown_rest(alloc: Global, shown: &Shown, verdict: &Verdict) -> Result<Html, NoMemory>
+    requires fits { Fits shown.now.judged.now.flow shown.now.judged.now.unit_outline }
+    requires strongest { IsStrongest shown.now.judged.now.observer (skeleton_of shown.now.judged.now.flow)
+        shown.now.typing.now.env }
+{
+    let mut html = Html::new(alloc);
+    push_all(&mut html, shown, verdict)?;
+    Ok(html)
+}
+
 /// What follows the answer.
 fn rest_of(alloc: Global, answered: Answered) -> Result<Html, NoMemory>
     requires short { length answered.bytes.now ≤ largest_file }
@@ -98,9 +116,10 @@ fn rest_of(alloc: Global, answered: Answered) -> Result<Html, NoMemory>
         clauses: &clauses,
         typing: &typing,
     };
-    let mut html = Html::new(alloc);
-    push_all(&mut html, &shown, answered.verdict)?;
-    Ok(html)
+    let rest = shown_rest(alloc, &shown, answered.verdict);
+    drop(typing);
+    drop(clauses);
+    rest
 }
 
 /// The page that says a verdict.

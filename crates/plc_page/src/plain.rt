@@ -7,7 +7,9 @@ use crate::page::clauses_in;
 use crate::refused::line_of_refusal;
 use crate::unproved::MOST_SHOWN;
 use plc_base::{NoMemory, OpId, StepId};
-use plc_check::{Counterexample, Judged, LoadFault, Verdict, check, load, open_obligations};
+use plc_check::{
+    Counterexample, Judged, LoadFault, OpenObligations, Verdict, check, load, open_obligations,
+};
 use plc_cli::{refusal, verdict_status};
 use plc_flow::Flow;
 use plc_oblig::Obligation;
@@ -100,6 +102,36 @@ fn push_end(out: &mut Vec<u8>, name: &[u8], all: bool) -> Result<(), AllocError>
     push(out, "note: the search ended here, so more may stay open\n")
 }
 
+/// The lines of those that were found.
+fn push_found(
+    out: &mut Vec<u8>,
+    file: Named,
+    judged: &Judged,
+    clauses: &Clauses,
+    open: &OpenObligations,
+) -> Result<(), AllocError> {
+    for found in open.found.as_slice() {
+        push_open(out, file, judged, clauses, found)?;
+    }
+    push_end(out, file.name, open.all)
+}
+
+/// The lines of the obligations that stay open, by where the clauses stand.
+fn push_open_by(
+    out: &mut Vec<u8>,
+    alloc: Global,
+    file: Named,
+    judged: &Judged,
+    clauses: &Clauses,
+) -> Result<(), NoMemory>
+    requires { Fits judged.now.flow judged.now.unit_outline }
+{
+    let open = open_obligations(alloc, judged, MOST_SHOWN)?;
+    let pushed = push_found(out, file, judged, clauses, &open);
+    drop(open);
+    Ok(pushed?)
+}
+
 /// The lines of the obligations that stay open.
 fn push_all_open(
     out: &mut Vec<u8>,
@@ -111,12 +143,9 @@ fn push_all_open(
     requires fits { Fits judged.now.flow judged.now.unit_outline }
 {
     let clauses = clauses_in(alloc, file.bytes)?;
-    let open = open_obligations(alloc, judged, MOST_SHOWN)?;
-    for found in open.found.as_slice() {
-        push_open(out, file, judged, &clauses, found)?;
-    }
-    push_end(out, file.name, open.all)?;
-    Ok(())
+    let pushed = push_open_by(out, alloc, file, judged, &clauses);
+    drop(clauses);
+    pushed
 }
 
 /// The line of the primitive that has no typing.
@@ -194,18 +223,43 @@ fn push_verdict(
     }
 }
 
-/// The lines of a file that was loaded.
+/// The lines of a file with a verdict on it.
+fn verdict_lines(
+    alloc: Global,
+    file: Named,
+    judged: &Judged,
+    verdict: &Verdict,
+) -> Result<Lines, NoMemory>
+    requires short { length file.bytes.now ≤ largest_file }
+    requires fits { Fits judged.now.flow judged.now.unit_outline }
+{
+    let mut text = Vec::new(alloc);
+    push_verdict(&mut text, alloc, file, judged, verdict)?;
+    Ok(Lines {
+        status: verdict_status(verdict),
+        text,
+    })
+}
+
+/// The lines of a file that was loaded, by the verdict on it.
 fn judged_lines(alloc: Global, file: Named, judged: &Judged) -> Result<Lines, NoMemory>
     requires short { length file.bytes.now ≤ largest_file }
     requires fits { Fits judged.now.flow judged.now.unit_outline }
 {
     let verdict = check(alloc, judged)?;
-    let mut text = Vec::new(alloc);
-    push_verdict(&mut text, alloc, file, judged, &verdict)?;
-    Ok(Lines {
-        status: verdict_status(&verdict),
-        text,
-    })
+    let lines = verdict_lines(alloc, file, judged, &verdict);
+    drop(verdict);
+    lines
+}
+
+/// The lines of a file that was loaded, which ends here.
+fn loaded_lines(alloc: Global, file: Named, judged: Judged) -> Result<Lines, NoMemory>
+    requires short { length file.bytes.now ≤ largest_file }
+    requires fits { Fits judged.flow judged.unit_outline }
+{
+    let lines = judged_lines(alloc, file, &judged);
+    drop(judged);
+    lines
 }
 
 /// The lines of a file that is refused.
@@ -228,11 +282,7 @@ pub fn plain_lines(alloc: Global, name: &[u8], bytes: &[u8]) -> Result<Lines, No
 {
     let file = Named { name, bytes };
     match load(alloc, bytes) {
-        Ok(judged) => {
-            let lines = judged_lines(alloc, file, &judged);
-            drop(judged);
-            lines
-        }
+        Ok(judged) => loaded_lines(alloc, file, judged),
         Err(LoadFault::Memory) => Err(NoMemory),
         Err(fault) => refused_lines(alloc, file, &fault),
     }

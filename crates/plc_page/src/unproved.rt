@@ -164,16 +164,32 @@ fn all_groups(alloc: Global, outline: &Outline) -> Result<Vec<Option<ClauseId>>,
     Ok(groups)
 }
 
+/// These groups, in order.
+fn push_all_groups(
+    html: &mut Html,
+    shown: &Shown,
+    found: &[Counterexample],
+    ids: &[Option<ClauseId>],
+    groups: &[Option<ClauseId>],
+) -> Written
+    requires { Fits shown.now.judged.now.flow shown.now.judged.now.unit_outline }
+{
+    for id in groups {
+        push_group(html, shown, found, ids, *id)?;
+    }
+    Ok(())
+}
+
 /// All groups.
 fn push_groups(html: &mut Html, shown: &Shown, found: &Items<Counterexample>) -> Written
     requires { Fits shown.now.judged.now.flow shown.now.judged.now.unit_outline }
 {
     let ids = clauses_of(html.alloc(), shown, found.as_slice())?;
     let groups = all_groups(html.alloc(), &shown.judged.unit_outline)?;
-    for id in &groups {
-        push_group(html, shown, found.as_slice(), &ids, *id)?;
-    }
-    Ok(())
+    let written = push_all_groups(html, shown, found.as_slice(), &ids, &groups);
+    drop(groups);
+    drop(ids);
+    written
 }
 
 /// How many obligations stay open, as far as they were looked for.

@@ -103,6 +103,15 @@ fn push_suggestion(html: &mut Html, judged: &Judged) -> Written
     html.markup("</pre>\n")
 }
 
+/// At which line there is no typing, and why, in these words.
+fn push_failed(html: &mut Html, line: u32, words: &[u8]) -> Written {
+    html.markup("<h2>No typing</h2>\n<p>Line ")?;
+    push_link(html, "L", "", line)?;
+    html.markup(": ")?;
+    push_sentence(html, words)?;
+    html.markup("</p>\n")
+}
+
 /// Why a file has no typing.
 pub(crate) fn push_failure(
     html: &mut Html,
@@ -115,14 +124,12 @@ pub(crate) fn push_failure(
     requires strongest { IsStrongest shown.now.judged.now.observer (skeleton_of shown.now.judged.now.flow)
         shown.now.typing.now.env }
 {
-    let line = line_of(&shown.judged.flow, step.0);
+    let flow = &shown.judged.flow;
     let mut words = Vec::new(html.alloc());
-    push_untyped(&mut words, &shown.judged.flow, step, prim, fault)?;
-    html.markup("<h2>No typing</h2>\n<p>Line ")?;
-    push_link(html, "L", "", line)?;
-    html.markup(": ")?;
-    push_sentence(html, &words)?;
-    html.markup("</p>\n")?;
+    push_untyped(&mut words, flow, step, prim, fault)?;
+    let written = push_failed(html, line_of(flow, step.0), &words);
+    drop(words);
+    written?;
     push_before(html, shown, step, prim)?;
     push_advice(html, fault)?;
     push_suggestion(html, shown.judged)

@@ -13,7 +13,7 @@ use plc_cli::{REFUSED, Recorded, answer_schedule};
 use plc_html::{Html, whole_page};
 use plc_page::{Page, push_file, push_numbered_lines, refused_page};
 use plc_reclaim::Reclaimer;
-use plc_sched::{SchedFault, read_schedule};
+use plc_sched::{SchedFault, Schedule, read_schedule};
 use plc_texts::schedule_fault_text;
 use std::alloc::Global;
 
@@ -43,6 +43,26 @@ fn ended_page(
         status: answer.status,
         bytes: Items::from_vec(page),
     })
+}
+
+/// The page of a schedule that was read, which ends here.
+fn read_page(
+    alloc: Global,
+    pair: Pair,
+    judged: &Judged,
+    schedule: Schedule,
+    reclaimer: &mut Box<dyn Reclaimer>,
+) -> Result<Page, NoMemory>
+    requires { CanBeReplayed judged.now schedule }
+    ensures { IfOk result (ShowsEnd judged.now (meanings reclaimer.old) schedule) }
+{
+    let recorded = Recorded {
+        judged,
+        schedule: &schedule,
+    };
+    let page = ended_page(alloc, pair, recorded, reclaimer);
+    drop(schedule);
+    page
 }
 
 /// The line at which the refusal of a schedule points; 0 where it names none.
@@ -78,16 +98,26 @@ fn scheduled_page(
     requires fits { FlowFits judged.now.flow }
     ensures { IfOk result (ShowsSchedule judged.now (meanings reclaimer.old) pair.entry.schedule.now) }
 {
-    let schedule = match read_schedule(alloc, pair.schedule) {
-        Ok(schedule) => schedule,
-        Err(SchedFault::Memory) => return Err(NoMemory),
-        Err(fault) => return unscheduled_page(alloc, pair, fault),
-    };
-    let recorded = Recorded {
-        judged,
-        schedule: &schedule,
-    };
-    ended_page(alloc, pair, recorded, reclaimer)
+    match read_schedule(alloc, pair.schedule) {
+        Ok(schedule) => read_page(alloc, pair, judged, schedule, reclaimer),
+        Err(SchedFault::Memory) => Err(NoMemory),
+        Err(fault) => unscheduled_page(alloc, pair, fault),
+    }
+}
+
+/// The page of a schedule for a file that was loaded, which ends here.
+fn loaded_page(
+    alloc: Global,
+    pair: Pair,
+    judged: Judged,
+    reclaimer: &mut Box<dyn Reclaimer>,
+) -> Result<Page, NoMemory>
+    requires fits { FlowFits judged.flow }
+    ensures { IfOk result (ShowsSchedule judged (meanings reclaimer.old) pair.entry.schedule.now) }
+{
+    let page = scheduled_page(alloc, pair, &judged, reclaimer);
+    drop(judged);
+    page
 }
 
 /// The page of a recorded run, by the bytes of a file and of a schedule: the answer of `replay` under this reclaimer,
@@ -109,7 +139,7 @@ pub fn replay_page(
         schedule: second,
     };
     match load(alloc, bytes) {
-        Ok(judged) => scheduled_page(alloc, pair, &judged, reclaimer),
+        Ok(judged) => loaded_page(alloc, pair, judged, reclaimer),
         Err(LoadFault::Memory) => Err(NoMemory),
         Err(fault) => refused_page(alloc, name, bytes, &fault),
     }

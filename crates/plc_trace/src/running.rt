@@ -82,6 +82,32 @@ fn follow(traced: &Traced, walk: &mut Walk, entries: &[Entry], untold: usize) ->
     }
 }
 
+/// What is written of all lines.
+fn followed(
+    traced: &Traced,
+    mut walk: Walk,
+    entries: &[Entry],
+    untold: usize,
+) -> Result<Log, NoMemory>
+    requires fits { FlowFits traced.now.flow.now }
+    requires few { length entries.now < line_limit }
+    requires untold { untold ≤ length entries.now }
+    requires stands { GoesOnFrom traced.now 1 walk.config }
+{
+    follow(traced, &mut walk, entries, untold)?;
+    Ok(walk.log)
+}
+
+/// What is written where the program has no start.
+fn not_started(alloc: Global) -> Result<Log, NoMemory> {
+    let mut log = Log::new(alloc);
+    log.ending.markup(
+        "<p>Line 1 of the schedule is impossible: <code>init</code> is blocked, so that the program has no \
+         start.</p>\n",
+    )?;
+    Ok(log)
+}
+
 /// What is written of the run of a schedule, from its start.
 fn run(
     alloc: Global,
@@ -96,25 +122,17 @@ fn run(
     let Recorded { judged, schedule } = recorded;
     let entries = schedule.entries.as_slice();
     let untold = untold.min(entries.len());
-    let mut log = Log::new(alloc);
     begin_reclaimer(reclaimer, judged.schemes.as_slice())?;
     match Config::start(alloc, traced.flow, traced.observer, schedule.threads) {
         Ok(config) => {
-            let mut walk = Walk {
-                log,
+            let walk = Walk {
+                log: Log::new(alloc),
                 config,
                 reclaimer,
             };
-            follow(traced, &mut walk, entries, untold)?;
-            Ok(walk.log)
+            followed(traced, walk, entries, untold)
         }
-        Err(StartFault::NoStart) => {
-            log.ending.markup(
-                "<p>Line 1 of the schedule is impossible: <code>init</code> is blocked, so that the program has no \
-                 start.</p>\n",
-            )?;
-            Ok(log)
-        }
+        Err(StartFault::NoStart) => not_started(alloc),
         Err(StartFault::Memory) => Err(NoMemory),
     }
 }
@@ -146,6 +164,42 @@ fn put_together(log: Log, threads: u32, untold: usize) -> Result<Html, NoMemory>
     Ok(html)
 }
 
+/// How many of the entries aren't shown, by the end that the run has.
+fn untold_of(
+    alloc: Global,
+    recorded: Recorded,
+    reclaimer: &mut Box<dyn Reclaimer>,
+) -> Result<usize, NoMemory>
+    requires { CanBeReplayed recorded.judged.now recorded.schedule.now }
+{
+    let end = end_of(alloc, recorded, reclaimer)?;
+    let untold = left_out(&end);
+    drop(end);
+    Ok(untold)
+}
+
+/// What is written of the run of a schedule, by the steps that leave each point.
+fn log_of(
+    alloc: Global,
+    recorded: Recorded,
+    reclaimer: &mut Box<dyn Reclaimer>,
+    untold: usize,
+) -> Result<Log, NoMemory>
+    requires { CanBeReplayed recorded.judged.now recorded.schedule.now }
+{
+    let flow = &recorded.judged.flow;
+    let steps = StepsByPoint::of_flow(alloc, flow)?;
+    let traced = Traced {
+        flow,
+        observer: &recorded.judged.observer,
+        steps: &steps,
+        threads: recorded.schedule.threads,
+    };
+    let log = run(alloc, &traced, recorded, reclaimer, untold);
+    drop(steps);
+    log
+}
+
 /// What is said of the run of a schedule, and the line of the file of its last step, or 0. The one error is that memory
 /// runs out.
 pub(crate) fn trace(
@@ -155,19 +209,9 @@ pub(crate) fn trace(
 ) -> Result<(Html, u32), NoMemory>
     requires { CanBeReplayed recorded.judged.now recorded.schedule.now }
 {
-    let end = end_of(alloc, recorded, reclaimer)?;
-    let Recorded { judged, schedule } = recorded;
-    let (flow, observer) = (&judged.flow, &judged.observer);
-    let untold = left_out(&end);
-    let steps = StepsByPoint::of_flow(alloc, flow)?;
-    let traced = Traced {
-        flow,
-        observer,
-        steps: &steps,
-        threads: schedule.threads,
-    };
-    let log = run(alloc, &traced, recorded, reclaimer, untold)?;
+    let untold = untold_of(alloc, recorded, reclaimer)?;
+    let log = log_of(alloc, recorded, reclaimer, untold)?;
     let here = log.here;
-    let html = put_together(log, schedule.threads, untold)?;
+    let html = put_together(log, recorded.schedule.threads, untold)?;
     Ok((html, here))
 }
