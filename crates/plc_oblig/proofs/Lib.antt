@@ -1,7 +1,6 @@
-pub mod ClaimCounts
-pub mod Walking
-mod PartByPart
-mod Remaining
+mod Joined
+mod PointCounts
+mod LargeSets
 mod Members
 mod Staying
 pub mod Opposites
@@ -13,7 +12,6 @@ pub mod Standing
 pub mod ValueSorts
 pub mod Sides
 mod Lengths
-mod AnyOf
 mod Executed
 mod Wholes
 mod Bounds

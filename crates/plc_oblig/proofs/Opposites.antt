@@ -50,7 +50,7 @@ use Rattle.plc_symbolic.proofs.Drafts.{written_all-clauses, listed_all-clauses}
 use Rattle.plc_oblig.specs.GroundSets.{listed_first, drafted, ground_set}
 use Rattle.plc_oblig.specs.Obligations.{parts_from, starts, enters_of, owns_of, others_at, others_of, claims_in, claims_of, enters, owns, others, claims, obligations, step_id, point_id}
 use Rattle.plc_oblig.specs.Still.{changes, is_quiet, is_still}
-use Rattle.plc_oblig.proofs.Walking.{found_left}
+use Rattle.plc_base.proofs.Lists.{slice_left}
 use Rattle.plc_oblig.proofs.Places.{there}
 use Rattle.plc_oblig.specs.Outlines.{IsKept}
 use Rattle.plc_oblig.specs.Direct.{opposite, opposites, IsRefuted, IsRefutedByLast, IsPremise, denied_count, instance_before}
@@ -372,7 +372,7 @@ module _ (flow : Flow) (outline : Outline) where
       let f = there outline.invariants c less in
       let inv = fits.outline_fits.each_invariant in
       let fit = subst (InvariantFits flow.file) (get_found f.0 f.1) (inv c f.0 less) in
-      refuted_by flow outline (Own k c) f.0 (found_left outline.invariants _ c f.0 f.1) refl (quiet_step (list_any changes (step_prims flow k.0)) p.1)
+      refuted_by flow outline (Own k c) f.0 (slice_left outline.invariants _ c f.0 f.1) refl (quiet_step (list_any changes (step_prims flow k.0)) p.1)
       (λ n d less. fit_stays (in_reach_of flow.file [] false f.0) refl _ (fit.each n d less))
       (λ i h. Contains-append_left (flat_map (instances flow.file.ghosts (setting_of flow outline (Own k c)) false) (acting_premises flow outline (Own k c))) _ i
       (contains_flat_map (instances flow.file.ghosts (setting_of flow outline (Own k c)) false) (acting_premises flow outline (Own k c)) f.0 i

@@ -8,8 +8,6 @@ pub mod Still
 pub mod Direct
 pub mod Alike
 -- words of private functions alone
-pub mod Finding
 pub mod Size
-pub mod Left
-pub mod Excess
+pub mod Runs
 pub mod Drafting

@@ -1,5 +1,5 @@
 -- When an outline holds, and how large it may be.
-use Rattle.std.specs.Prelude.{◌≡◌, ◌<◌, ◌≤◌, List, ◌∷◌, ◌++◌, length, All, Any}
+use Rattle.std.specs.Prelude.{◌≡◌, ◌<◌, ◌≤◌, Bool, nat_lt, List, ◌∷◌, ◌++◌, length, All, Any}
 use Rattle.plc_base.specs.Limits.{most}
 use Rattle.plc_base.specs.declared.limits.What1.TheVariants as limits
 use Rattle.plc_flow.specs.declared.flow.Flow.{Flow}
@@ -40,3 +40,7 @@ HasSmallSets flow outline =
 abbrev pub HasLargeSet : Flow → Outline → Type 0
 HasLargeSet flow outline =
     Any (λ o. most limits.Clauses < length (ground_set flow outline o).clauses) (obligations flow outline)
+
+-- the ground set of the obligation has more, as a test
+abbrev pub is_large : Flow → Outline → Obligation → Bool
+is_large flow outline o = nat_lt (most limits.Clauses) (length (ground_set flow outline o).clauses)

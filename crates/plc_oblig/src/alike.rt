@@ -27,33 +27,15 @@ fn share_gate(p: u16, q: u16, gate: &Gate) -> bool
     same_bool(has_point(gate, p), has_point(gate, q))
 }
 
-/// A point, and whether any label names it.
-#[derive(Clone, Copy)]
-struct Place {
-    point: u16,
-    labelled: bool,
-}
-
-/// The point, looked for among the labels.
-fn place_of(flow: &Flow, point: u16) -> Place
-    ensures point { result.point ≡ point }
-    ensures labelled { result.labelled ≡ is_labelled flow.now point }
-{
-    Place {
-        point,
-        labelled: is_labelled(flow, point),
-    }
-}
-
-/// Whether the item stands at both points, or at neither.
-fn share_item(flow: &Flow, p: Place, q: Place, item: &Item) -> bool
-    requires first { p.labelled ≡ is_labelled flow.now p.point }
-    requires second { q.labelled ≡ is_labelled flow.now q.point }
-    ensures { result ≡ share_item flow.now p.point q.point item.now }
+/// Whether the item stands at both points, or at neither; of each it is known whether any label names it.
+fn share_item(flow: &Flow, p: (u16, bool), q: (u16, bool), item: &Item) -> bool
+    requires first { p.1 ≡ is_labelled flow.now p.0 }
+    requires second { q.1 ≡ is_labelled flow.now q.0 }
+    ensures { result ≡ share_item flow.now p.0 q.0 item.now }
 {
     same_bool(
-        stands_at(flow, p.point, p.labelled, item),
-        stands_at(flow, q.point, q.labelled, item),
+        stands_at(flow, p.0, p.1, item),
+        stands_at(flow, q.0, q.1, item),
     )
 }
 
@@ -68,8 +50,8 @@ fn share_gates(gates: &[Gate], p: u16, q: u16) -> bool
 fn share_items(flow: &Flow, items: &[Item], p: u16, q: u16) -> bool
     ensures { result ≡ list_all (share_item flow.now p q) items.now }
 {
-    let first = place_of(flow, p);
-    let second = place_of(flow, q);
+    let first = (p, is_labelled(flow, p));
+    let second = (q, is_labelled(flow, q));
     items
         .iter()
         .all(|item| share_item(flow, first, second, item))
@@ -131,27 +113,15 @@ impl Model for Noted {
     ghost view = { λ n. n.entries.items };
 }
 
-/// The step after which another thread's clause is said.
-fn step_of(o: &Obligation) -> Option<StepId> {
+/// The step, the point of another thread and the number of its clause, where the obligation is of that kind.
+fn place_of(o: &Obligation) -> Option<(StepId, PointId, u16)> {
     match *o {
-        Obligation::Other { step, .. } => Some(step),
+        Obligation::Other {
+            step,
+            point,
+            clause,
+        } => Some((step, point, clause)),
         _ => None,
-    }
-}
-
-/// The point of another thread, and the number of its clause.
-fn clause_of(o: &Obligation) -> Option<(PointId, u16)> {
-    match *o {
-        Obligation::Other { point, clause, .. } => Some((point, clause)),
-        _ => None,
-    }
-}
-
-/// Whether both are of one point.
-fn share_point(a: &Obligation, b: &Obligation) -> bool {
-    match (clause_of(a), clause_of(b)) {
-        (Some((p, _)), Some((q, _))) => p.0 == q.0,
-        _ => false,
     }
 }
 
@@ -205,7 +175,7 @@ impl Noted {
     pub fn find(&self, flow: &Flow, outline: &Outline, o: &Obligation) -> Option<usize>
         ensures { IfSome result (IsNotedAs flow.now outline.now self.now o.now) }
     {
-        let (_, number) = clause_of(o)?;
+        let (_, _, number) = place_of(o)?;
         for start in last_of(self.starts.as_slice()) {
             let found = self.alike_after(*start, number, flow, outline, o);
             if found.is_some() {
@@ -215,33 +185,24 @@ impl Noted {
         None
     }
 
-    /// Forgets what is noted of another step.
-    fn keep_step(&mut self, step: StepId)
-        ensures { (x : AnObligation × ℕ) → Contains self.new x → Contains self.old x }
-    {
-        let Some((last, _)) = self.entries.last() else {
-            return;
-        };
-        if step_of(last) != Some(step) {
-            self.entries.clear();
-            self.starts.clear();
-        }
+    /// The step and the point of the last entry.
+    fn last_place(&self) -> Option<(StepId, PointId)> {
+        let (noted, _) = self.entries.last()?;
+        let (step, point, _) = place_of(noted)?;
+        Some((step, point))
     }
 
-    /// Whether the last entry is of the obligation's point.
-    fn goes_on(&self, o: &Obligation) -> bool {
-        match self.entries.last() {
-            None => false,
-            Some((last, _)) => share_point(last, o),
-        }
-    }
-
-    /// Notes where the entries of a point begin, if the obligation is the first of it.
-    fn begin(&mut self, o: &Obligation) -> Result<(), NoMemory>
-        ensures { OnOk result (self.new ≡ self.old) }
+    /// Notes where the entries of a point begin, if none of it is the last, and forgets what is noted of another step.
+    fn begin(&mut self, step: StepId, point: PointId) -> Result<(), NoMemory>
+        ensures { OnOk result ((x : AnObligation × ℕ) → Contains self.new x → Contains self.old x) }
     {
-        if self.goes_on(o) {
-            return Ok(());
+        match self.last_place() {
+            Some((s, p)) if s.0 == step.0 && p.0 == point.0 => return Ok(()),
+            Some((s, _)) if s.0 == step.0 => {}
+            _ => {
+                self.entries.clear();
+                self.starts.clear();
+            }
         }
         self.starts.push(self.entries.len())?;
         Ok(())
@@ -253,11 +214,10 @@ impl Noted {
         ensures { OnOk result ((x : AnObligation × ℕ) → Contains self.new x
             → Contains self.old x ⊎ (x ≡ (o.now, at))) }
     {
-        let Some(step) = step_of(o) else {
+        let Some((step, point, _)) = place_of(o) else {
             return Ok(());
         };
-        self.keep_step(step);
-        self.begin(o)?;
+        self.begin(step, point)?;
         self.entries.push((*o, at))?;
         Ok(())
     }

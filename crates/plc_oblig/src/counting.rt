@@ -1,68 +1,41 @@
-// How many obligations there are, kind by kind. No list of them is made: there may be a million.
-ghost use Rattle.std.specs.Prelude.{◌≡◌, ◌≤◌, ◌+◌, ◌*◌, length};
-ghost use Rattle.plc_base.specs.Limits.{most};
-ghost use Rattle.plc_base.specs.declared.limits.What1.TheVariants as limits;
-ghost use Rattle.plc_flow.specs.WellFormed.{most_step_primitives};
-ghost use Rattle.plc_setting.specs.Setting.{below};
-ghost use Rattle.plc_oblig.specs.Obligations.{enters, owns, parts_from, others_at, claims, obligations};
-ghost use Rattle.plc_oblig.specs.Finding.{HasFewParts};
+// How many obligations there are, group by group. Each step has as many at the points of another thread as any other,
+// so those are counted once.
+ghost use Rattle.std.specs.Prelude.{◌≡◌, ◌≤◌, ◌*◌, length};
 ghost use Rattle.plc_setting.specs.Fit.{Fits};
+ghost use Rattle.plc_oblig.specs.declared.runs.Group.TheVariants.{AtPoints};
+ghost use Rattle.plc_oblig.specs.Obligations.{step_id, obligations};
+ghost use Rattle.plc_oblig.specs.Runs.{runs};
 
-use crate::claims::count_claims;
+use crate::runs::{Counted, Group, count_in, count_points, group_at, group_count, parts_of};
+use plc_base::StepId;
 use plc_flow::Flow;
 use plc_logic::Outline;
-use plc_setting::count_at;
 
-/// How many obligations there are on the entries of operations.
-fn count_enters(flow: &Flow, outline: &Outline) -> u64
-    requires { HasFewParts flow.now outline.now }
-    ensures count { result ≡ length (enters flow.now outline.now) }
-    ensures few { result ≤ length flow.now.gates * most limits.Items }
+/// How many obligations a group has.
+fn count_group(o: Counted<'_>, group: Group) -> u64
+    requires { Fits o.flow.now o.outline.now }
+    ensures count { result ≡ length (runs o.entry.flow.now o.entry.outline.now group) }
+    ensures few { result ≤ 65536 * 65536 }
 {
     let mut total = 0;
-    for gate in flow.gates.as_slice() {
-        total += count_at(flow, outline, gate.entry.0) as u64;
+    for k in 0..parts_of(o.flow, o.outline, group) {
+        total += count_in(o, group, k) as u64;
     }
     total
 }
 
-/// How many obligations there are on what steps lead their own threads to.
-fn count_owns(flow: &Flow, outline: &Outline) -> u64
-    requires { HasFewParts flow.now outline.now }
-    ensures count { result ≡ length (owns flow.now outline.now) }
-    ensures few { result ≤ length flow.now.steps * (most limits.Invariants + most limits.Items) }
+/// How many a group has, where it is known how many each step has at the points of another thread.
+fn count_knowing(o: Counted<'_>, group: Group, each: u64) -> u64
+    requires fits { Fits o.flow.now o.outline.now }
+    requires each { each ≡ length (runs o.flow.now o.outline.now (AtPoints (step_id 0))) }
+    requires few { each ≤ 65536 * 65536 }
+    ensures count { result ≡ length (runs o.entry.flow.now o.entry.outline.now group) }
+    ensures few { result ≤ 65536 * 65536 }
 {
-    let mut total = 0;
-    for step in flow.steps.as_slice() {
-        total += (outline.invariants.len() + count_at(flow, outline, step.to.0)) as u64;
+    match group {
+        Group::AtPoints(_) => each,
+        _ => count_group(o, group),
     }
-    total
-}
-
-/// How many obligations one step has at the points of another thread: one for each clause of each point.
-pub(crate) fn count_points(flow: &Flow, outline: &Outline) -> u64
-    requires { HasFewParts flow.now outline.now }
-    ensures count { result ≡ length (parts_from (others_at flow.now outline.now 0) 0 (below flow.now.points)) }
-    ensures few { result ≤ most limits.Points * most limits.Items }
-{
-    let mut total = 0;
-    for p in 0..flow.points {
-        total += count_at(flow, outline, p) as u64;
-    }
-    total
-}
-
-/// How many obligations there are on claims.
-fn count_all_claims(flow: &Flow, outline: &Outline) -> u64
-    requires { HasFewParts flow.now outline.now }
-    ensures count { result ≡ length (claims flow.now) }
-    ensures few { result ≤ length flow.now.steps * most_step_primitives }
-{
-    let mut total = 0;
-    for step in flow.steps.as_slice() {
-        total += count_claims(step.prims.as_slice()) as u64;
-    }
-    total
 }
 
 /// How many obligations an outline has. It takes no memory.
@@ -70,10 +43,16 @@ pub fn count(flow: &Flow, outline: &Outline) -> u64
     requires { Fits flow.now outline.now }
     ensures { result ≡ length (obligations flow.now outline.now) }
 {
-    let others = flow.steps.len() as u64 * count_points(flow, outline);
-    outline.invariants.len() as u64
-        + count_enters(flow, outline)
-        + count_owns(flow, outline)
-        + others
-        + count_all_claims(flow, outline)
+    let counts = count_points(flow, outline);
+    let counted = Counted {
+        flow,
+        outline,
+        counts: &counts[..flow.points as usize],
+    };
+    let each = count_group(counted, Group::AtPoints(StepId(0)));
+    let mut total = 0;
+    for g in 0..group_count(flow) {
+        total += count_knowing(counted, group_at(flow, g), each);
+    }
+    total
 }

@@ -9,12 +9,11 @@
 
 mod alike;
 mod annotated;
-mod claims;
 mod counting;
 mod excess;
-mod finding;
 mod grounding;
 mod refuted;
+mod runs;
 mod size;
 mod stillness;
 mod trees;
@@ -24,10 +23,9 @@ pub use alike::{Noted, alike_obligations_have_one_set};
 pub use annotated::{Annotated, annotate};
 pub use counting::count;
 pub use excess::has_large_set;
-pub use finding::nth;
 pub use grounding::{Grounding, ground};
 pub use plc_setting::{Obligation, program_uses_marks};
 pub use size::clauses;
 pub use stillness::{still, still_obligations_are_kept};
 pub use trees::direct;
-pub use walk::Walk;
+pub use walk::{Walk, nth};
