@@ -17,6 +17,7 @@ mod grounding;
 mod refuted;
 mod size;
 mod stillness;
+mod touching;
 mod trees;
 mod walk;
 
@@ -29,5 +30,6 @@ pub use grounding::{Grounding, ground};
 pub use plc_setting::{Obligation, program_uses_marks};
 pub use size::clauses;
 pub use stillness::{still, still_obligations_are_kept};
+pub use touching::{Part, untouched, untouched_obligations_are_kept};
 pub use trees::direct;
 pub use walk::Walk;
