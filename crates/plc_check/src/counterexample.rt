@@ -1,6 +1,9 @@
-// What breaks one obligation. One that is still, or alike one that was found to be kept, is known to be kept without a
-// set. Of each other the ground set is made and given to the solver, which closes it or finds a model: the state in
-// which the step breaks the clause.
+// What breaks one obligation. One that is still, alike one that was found to be kept, or untouched by its step is known
+// to be kept without a set. Of each other the ground set is made and given to the solver, which closes it or finds a
+// model: the state in which the step breaks the clause.
+//
+// Of one step all obligations are still or none is. So still ones needn't be noted, but untouched ones are: where alike
+// ones are looked for, the clauses of a point stand in their order.
 ghost use Rattle.std.specs.Prelude.{◌≡◌, IfOk, OnOk, IsTrue, Contains};
 ghost use Rattle.plc_oblig.specs.Programs.{ProgramFits, obligations_of};
 ghost use Rattle.plc_oblig.specs.Outlines.{IsKept};
@@ -9,7 +12,7 @@ ghost use Rattle.plc_check.specs.Counterexamples.{IsCounterexampleAt, NotedAreKe
 use crate::tree::{Shown, solve_at};
 use plc_base::NoMemory;
 use plc_ground::{GroundModel, GroundSet};
-use plc_oblig::{Annotated, Grounding, Noted, Obligation, still};
+use plc_oblig::{Annotated, Grounding, Noted, Obligation, still, untouched};
 
 /// An obligation that isn't kept, with its ground set and a model of it.
 #[derive(Drop)]
@@ -52,6 +55,10 @@ pub(crate) fn counterexample_at(
     ensures kept { OnOk result (NotedAreKept program.now.flow.now program.now.outline.now kept.new) }
 {
     if is_known_kept(program, kept, &obligation) {
+        return Ok(None);
+    }
+    if untouched(program.flow, program.outline, &obligation) {
+        kept.note(&obligation, 0)?;
         return Ok(None);
     }
     let Shown::Broken(found) = solve_at(memory, program, obligation)? else {

@@ -1,8 +1,10 @@
--- The ground set of a still obligation ends with the opposites of an instance of what held before, and so has no model.
+-- The ground set of an obligation whose clause is read after the step as before it ends with the opposites of an instance
+-- of what held before, and so has no model. Still obligations are such.
 use Rattle.std.proofs.Common.{◌≡◌, ℕ, zero, suc, ◌+◌, ◌<◌, Bool, true, false, not, nat_lt, List, [], ◌∷◌, ◌++◌, map, length, slice_get, Some, None, refl, sym, ap, ◌∙◌, subst, arith}
-use Rattle.std.specs.Prelude.{if◌then◌else◌, All, Any, Contains, MatchBool, flat_map, filter, slice_index, slice_index_or}
+use Rattle.std.specs.Prelude.{if◌then◌else◌, ◌||◌, ◌&&◌, ◌==◌, All, Any, Contains, MatchBool, flat_map, filter, slice_index, slice_index_or}
 use Rattle.std.specs.List.{list_any}
-use Rattle.std.proofs.lemmas.Bool.{and_parts, ltb-true}
+use Rattle.std.proofs.lemmas.Bool.{and_parts, ltb-true, eqb-true}
+use Rattle.std.proofs.lemmas.List.Folds.{list_any_at}
 use Rattle.std.proofs.lemmas.Option.{get_or_from_slice_get}
 use Rattle.std.proofs.lemmas.List.{length-map, length-append, map-append, append-nil, append_assoc}
 use Rattle.std.proofs.lemmas.List.FromFn.{length-range_with_len, length-map-range_with_len, get_or-range_with_len}
@@ -10,6 +12,7 @@ use Rattle.std.proofs.lemmas.List.Elements.{All-nil, All-cons, All-head, All-tai
 use Rattle.plc_lang.specs.declared.syntax.Ghost.{Ghost as AuxiliaryField}
 use Rattle.plc_lang.specs.declared.syntax.Primitive.{Primitive}
 use Rattle.plc_lang.specs.WellSorted.{is_claim}
+use Rattle.plc_lang.specs.Allocation.{is_new}
 use Rattle.plc_flow.specs.declared.flow.Flow.{Flow}
 use Rattle.plc_logic.specs.declared.clause.Base.{Base}
 use Rattle.plc_logic.specs.declared.clause.Base.TheVariants as bases
@@ -51,12 +54,14 @@ use Rattle.plc_oblig.specs.GroundSets.{listed_first, drafted, ground_set}
 use Rattle.plc_oblig.specs.Obligations.{parts_from, starts, enters_of, owns_of, others_at, others_of, claims_in, claims_of, enters, owns, others, claims, obligations, step_id, point_id}
 use Rattle.plc_oblig.specs.Still.{changes, is_quiet, is_still}
 use Rattle.plc_base.proofs.Lists.{slice_left}
+use Rattle.plc_oblig.specs.declared.touching.Part.{Part}
+use Rattle.plc_oblig.specs.Untouched.{literal_reads, any_reads, touches, is_read_alike, any_read_alike, is_untouched}
 use Rattle.plc_oblig.proofs.Places.{there}
 use Rattle.plc_oblig.specs.Outlines.{IsKept}
 use Rattle.plc_oblig.specs.Direct.{opposite, opposites, IsRefuted, IsRefutedByLast, IsPremise, denied_count, instance_before}
 use Rattle.plc_oblig.proofs.Members.{at_head, in_tail, at_place, contains_map, contains_flat_map, Within, within_left, within_right, within_itself, within_map, map_read}
-use Rattle.plc_oblig.proofs.Staying.{Stays, stays_after_all, none_new, BaseStays, TermStays, LiteralStays}
-use Rattle.plc_oblig.proofs.Staying.{literal_stays}
+use Rattle.plc_oblig.proofs.Staying.{Stays, stays_after_all, none_written, none_new, BaseStays, TermStays, LiteralStays}
+use Rattle.plc_oblig.proofs.Staying.{Covers, literal_stays}
 
 -- ---- a set that ends with the opposites of an earlier clause has no model
 
@@ -107,23 +112,41 @@ escapes_denied : (js : List ℕ) → map alone (flat_map (escapes false) (map (�
 escapes_denied [] = refl
 escapes_denied (j ∷ js) = ap (λ cs. (is_not (Constant (symbols.Bound j)) null ∷ []) ∷ cs) (escapes_denied js)
 
-literals_denied : (ghosts : List AuxiliaryField) (x : Execution) → Stays x → (owner : Bool) (names : List NodeTerm) (ls : List Literal) → All (LiteralStays owner) ls
+literals_denied : (ghosts : List AuxiliaryField) (test : Part → Bool) (x : Execution) → Stays test x → (owner : Bool) (names : List NodeTerm) (ls : List Literal)
+    → All (LiteralStays owner) ls → All (Covers test) ls
     → map alone (map (read_literal ghosts start owner names) ls) ≡ map (λ l. read_literal ghosts x owner names (negation l) ∷ []) ls
-literals_denied ghosts x stays owner names [] h = refl
-literals_denied ghosts x stays owner names (l ∷ ls) h =
-    ap (λ k. (opposed k ∷ []) ∷ map alone (map (read_literal ghosts start owner names) ls)) (sym (literal_stays ghosts x stays owner names l (All-head (LiteralStays owner) l ls h)))
+literals_denied ghosts test x stays owner names [] h v = refl
+literals_denied ghosts test x stays owner names (l ∷ ls) h v =
+    ap (λ k. (opposed k ∷ []) ∷ map alone (map (read_literal ghosts start owner names) ls))
+    (sym (literal_stays ghosts test x stays owner names l (All-head (LiteralStays owner) l ls h) (All-head (Covers test) l ls v)))
     ∙ ap (λ k. (k ∷ []) ∷ map alone (map (read_literal ghosts start owner names) ls)) (sym (opposed_read ghosts x owner names l))
-    ∙ ap (λ cs. (read_literal ghosts x owner names (negation l) ∷ []) ∷ cs) (literals_denied ghosts x stays owner names ls (All-tail (LiteralStays owner) l ls h))
+    ∙ ap (λ cs. (read_literal ghosts x owner names (negation l) ∷ []) ∷ cs) (literals_denied ghosts test x stays owner names ls (All-tail (LiteralStays owner) l ls h) (All-tail (Covers test) l ls v))
 
-all_denied : (ghosts : List AuxiliaryField) (s : Setting) (x : Execution) → Stays x → (c : Clause) → All (LiteralStays s.owned) c.literals
+-- what a literal of the clause reads some literal of it reads
+all_covered : (ls : List Literal) → All (Covers (any_reads ls)) ls
+all_covered ls k d less part e = list_any_at (literal_reads part) ls k d less e
+
+all_denied : (ghosts : List AuxiliaryField) (s : Setting) (x : Execution) (c : Clause) → Stays (any_reads c.literals) x → All (LiteralStays s.owned) c.literals
     → map alone (instance_at ghosts false s.owned c.literals (bound_nodes (length c.bound.names))) ≡ denied_clause ghosts s x (Some c)
-all_denied ghosts s x stays c h =
+all_denied ghosts s x c stays h =
     let n = length c.bound.names in
     map-append alone (flat_map (escapes false) (bound_nodes n)) (map (read_literal ghosts start s.owned (bound_nodes n)) c.literals)
     ∙ ap (λ cs. cs ++ map alone (map (read_literal ghosts start s.owned (bound_nodes n)) c.literals)) (escapes_denied (below n))
-    ∙ ap (λ cs. map (λ i. is_not (Constant (symbols.Bound i)) null ∷ []) (below n) ++ cs) (literals_denied ghosts x stays s.owned (bound_nodes n) c.literals h)
+    ∙ ap (λ cs. map (λ i. is_not (Constant (symbols.Bound i)) null ∷ []) (below n) ++ cs) (literals_denied ghosts (any_reads c.literals) x stays s.owned (bound_nodes n) c.literals h (all_covered c.literals))
 
 -- ---- the instance is among the premises
+
+no_names : (n : ℕ) (b : Bool) → (n == 0) ≡ b → (b || false) ≡ true → n ≡ 0
+no_names n true e h = eqb-true n 0 e
+no_names n false e h = cc
+
+-- where no node is made, or none is named, an instance has no case for a new node
+plain_instance : (ghosts : List AuxiliaryField) (made owner : Bool) (ls : List Literal) (n : ℕ) → (n == 0 || not made) ≡ true
+    → instance_at ghosts made owner ls (bound_nodes n) ≡ instance_at ghosts false owner ls (bound_nodes n)
+plain_instance ghosts false owner ls n e = refl
+plain_instance ghosts true owner ls n e =
+    subst (λ m. instance_at ghosts true owner ls (bound_nodes m) ≡ instance_at ghosts false owner ls (bound_nodes m))
+    (sym (no_names n (n == 0) refl e)) refl
 
 tuple_listed : (names ts : List NodeTerm) → Within names ts → Contains (tuples (length names) ts) names
 tuple_listed [] ts h = at_head [] []
@@ -190,6 +213,15 @@ ends_refuted sorts d before i is there =
       read,
     )
 
+quiet_step : (b : Bool) → not b ≡ true → b ≡ false
+quiet_step true h = cc
+quiet_step false h = refl
+
+both_so : (a b d : Bool) → a ≡ true → d ≡ true → (a && (b || d)) ≡ true
+both_so true true d h e = refl
+both_so true false d h e = e
+both_so false b d h e = cc
+
 regroup : {A : Type 0} (a b c d e f g : List A)
     → a ++ (b ++ (c ++ (d ++ (e ++ (f ++ g))))) ≡ (a ++ (b ++ (c ++ (d ++ (e ++ f))))) ++ g
 regroup a b c d e f g = sym (simp append_assoc)
@@ -226,11 +258,11 @@ module _ (flow : Flow) (outline : Outline) (o : Obligation) where
       written_all-clauses (clauses_of flow outline s o) (listed_all blank (listed_first flow outline s))
       ∙ ap (λ cs. cs ++ clauses_of flow outline s o) (listed_all-clauses (listed_first flow outline s) blank)
 
-  -- the clause of a still obligation's premise, at its place in the set
+  -- the clause of the obligation's premise, at its place in the set
   abbrev pub IsRefutedPremise : ℕ → Type 0
   IsRefutedPremise k = IsRefutedByLast (ground_set flow outline o) (denied_count flow outline o) k × IsPremise flow outline o (literals (ground_set flow outline o) k)
 
-  refuted_by : (c : Clause) → conclusion flow outline o ≡ Some c → claim_made flow o ≡ None → list_any changes (executed flow o) ≡ false → All (LiteralStays (has_owner o)) c.literals
+  refuted_by : (c : Clause) → conclusion flow outline o ≡ Some c → claim_made flow o ≡ None → is_read_alike (executed flow o) c ≡ true → All (LiteralStays (has_owner o)) c.literals
       → ((i : List SymbolicLit) → Contains (instances flow.file.ghosts (setting_of flow outline o) (has_owner o) c) i → Contains (premises flow outline (setting_of flow outline o) o) i)
       → (k : ℕ) × IsRefutedPremise k
   unfolding ground_set
@@ -238,17 +270,17 @@ module _ (flow : Flow) (outline : Outline) (o : Obligation) where
       let s = setting_of flow outline o in
       let d = drafted flow outline s o in
       let x = after_all start s.acts in
-      let stays = stays_after_all flow.file.ghosts (acting_locals flow o) (program_uses_marks flow outline)
-      (executed flow o) quiet in
-      let at : Bool → List SymbolicLit = λ b. instance_at flow.file.ghosts b (has_owner o) c.literals (bound_nodes (length c.bound.names)) in
+      let alike = and_parts (not (list_any (touches c.literals) (executed flow o))) (length c.bound.names == 0 || not (list_any is_new (executed flow o))) quiet in
+      let stays = stays_after_all (any_reads c.literals) flow.file.ghosts (acting_locals flow o) (program_uses_marks flow outline)
+      (executed flow o) (quiet_step (list_any (touches c.literals) (executed flow o)) alike.0) in
       let i = instance_at flow.file.ghosts false (has_owner o) c.literals (bound_nodes (length c.bound.names)) in
-      let made = none_new (executed flow o) quiet in
+      let plain = plain_instance flow.file.ghosts s.makes (has_owner o) c.literals (length c.bound.names) alike.1 in
       let among = premise (instance_before flow outline o c) (instance_listed flow outline o (has_owner o) c is) in
-      let e = all_denied flow.file.ghosts s x stays c names_none ∙ ap (denied_clause flow.file.ghosts s x) (sym is) in
+      let e = all_denied flow.file.ghosts s x c stays names_none ∙ ap (denied_clause flow.file.ghosts s x) (sym is) in
       let ends = sym (append-nil (denied_clause flow.file.ghosts s x (conclusion flow outline o)))
       ∙ ap (λ q. denied_clause flow.file.ghosts s x (conclusion flow outline o) ++ denied_claim s x q) (sym no_claim) in
       let r = ends_refuted _ d earlier_clauses i (clauses_are ∙ clauses_end ∙ ap (λ cs. earlier_clauses ++ cs) (sym (e ∙ ends)))
-      (premise_held i (subst (λ b. Contains (premises flow outline s o) (at b)) made among)) in (
+      (premise_held i (subst (Contains (premises flow outline s o)) plain among)) in (
         r.0,
         (
           subst (λ n. IsRefutedByLast (ground_set flow outline o) n r.0) (sym (length-map i alone) ∙ ap length (e ∙ ends)) r.1,
@@ -256,7 +288,7 @@ module _ (flow : Flow) (outline : Outline) (o : Obligation) where
             clause = c;
             concluded = is;
             among = among;
-            numbered = r.2 ∙ ap (λ b. map (number_lit d.terms) (at b)) (sym made);
+            numbered = r.2 ∙ ap (map (number_lit d.terms)) (sym plain);
           },
         ),
       )
@@ -358,21 +390,30 @@ module _ (flow : Flow) (outline : Outline) where
       (λ k s. all_parts (HasClause flow outline) (others_at flow outline k) (λ j p. All-map (HasClause flow outline) (Other (step_id k) (point_id p)) (below (count_at flow outline p)) (all_below (count_at flow outline p))) 0 (below flow.points)) 0 flow.steps)
       (all_parts (HasClause flow outline) claims_of (λ k s. all_claims k 0 s.prims) 0 flow.steps))))
 
-  quiet_step : (b : Bool) → not b ≡ true → b ≡ false
-  quiet_step true h = cc
-  quiet_step false h = refl
+  -- the clause is an invariant, or another thread's
+  abbrev SaysAgain : Obligation → Type 0
+  SaysAgain (Start i) = ⊥
+  SaysAgain (Enter o c) = ⊥
+  SaysAgain (Own k c) = nat_lt c (length outline.invariants) ≡ true
+  SaysAgain (Other k p c) = Unit {0}
+  SaysAgain (Claim k j) = ⊥
 
-  pub still_is_refuted : (o : Obligation) → Fits flow outline → Contains (obligations flow outline) o → is_still flow outline o ≡ true → (k : ℕ) × IsRefutedPremise flow outline o k
-  still_is_refuted (Start i) fits listed still = cc
-  still_is_refuted (Enter o c) fits listed still = cc
-  still_is_refuted (Claim k j) fits listed still = cc
-  still_is_refuted (Own k c) fits listed still =
-      let p = and_parts (nat_lt c (length outline.invariants)) (is_quiet flow k.0) still in
-      let less = ltb-true c (length outline.invariants) p.0 in
+  -- it is read after the step as before it
+  abbrev ReadsAlike : Obligation → Type 0
+  ReadsAlike o = (c : Clause) → conclusion flow outline o ≡ Some c → is_read_alike (executed flow o) c ≡ true
+
+  again_is_refuted : (o : Obligation) → Fits flow outline → Contains (obligations flow outline) o → SaysAgain o → ReadsAlike o
+      → (k : ℕ) × IsRefutedPremise flow outline o k
+  again_is_refuted (Start i) fits listed again alike = absurd again
+  again_is_refuted (Enter o c) fits listed again alike = absurd again
+  again_is_refuted (Claim k j) fits listed again alike = absurd again
+  again_is_refuted (Own k c) fits listed again alike =
+      let less = ltb-true c (length outline.invariants) again in
       let f = there outline.invariants c less in
       let inv = fits.outline_fits.each_invariant in
       let fit = subst (InvariantFits flow.file) (get_found f.0 f.1) (inv c f.0 less) in
-      refuted_by flow outline (Own k c) f.0 (slice_left outline.invariants _ c f.0 f.1) refl (quiet_step (list_any changes (step_prims flow k.0)) p.1)
+      let is = slice_left outline.invariants _ c f.0 f.1 in
+      refuted_by flow outline (Own k c) f.0 is refl (alike f.0 is)
       (λ n d less. fit_stays (in_reach_of flow.file [] false f.0) refl _ (fit.each n d less))
       (λ i h. Contains-append_left (flat_map (instances flow.file.ghosts (setting_of flow outline (Own k c)) false) (acting_premises flow outline (Own k c))) _ i
       (contains_flat_map (instances flow.file.ghosts (setting_of flow outline (Own k c)) false) (acting_premises flow outline (Own k c)) f.0 i
@@ -380,17 +421,53 @@ module _ (flow : Flow) (outline : Outline) where
     where
       get_found : (x : Clause) → slice_get outline.invariants c ≡ Some x → slice_index_or outline.invariants c x ≡ x
       get_found x e = get_or_from_slice_get outline.invariants c x x e
-  still_is_refuted (Other k p c) fits listed still =
+  again_is_refuted (Other k p c) fits listed again alike =
       let less = All-contains (HasClause flow outline) (obligations flow outline) (Other k p c) all_have listed in
       let e = length-map (filter (stands_at flow p.0) outline.items) (λ (i : Item). i.clause) in
       let f = there (clauses_at flow outline p.0) c (omega arith) in
-      refuted_by flow outline (Other k p c) f.0 f.1 refl (quiet_step (list_any changes (step_prims flow k.0)) still)
+      refuted_by flow outline (Other k p c) f.0 f.1 refl (alike f.0 f.1)
       (λ n d less. owner_literal _)
       (λ i h. Contains-append_right (flat_map (instances flow.file.ghosts (setting_of flow outline (Other k p c)) false) (acting_premises flow outline (Other k p c))) _ i
       (contains_flat_map (instances flow.file.ghosts (setting_of flow outline (Other k p c)) true) (clauses_at flow outline p.0) f.0 i
       (at_place (clauses_at flow outline p.0) c f.0 f.1) h))
 
+  -- ---- still obligations, and untouched ones
+
+  quiet_is_alike : (ps : List Primitive) (c : Clause) → not (list_any changes ps) ≡ true → is_read_alike ps c ≡ true
+  quiet_is_alike ps c still =
+      let quiet = quiet_step (list_any changes ps) still in
+      both_so (not (list_any (touches c.literals) ps)) (length c.bound.names == 0) (not (list_any is_new ps))
+      (ap not (none_written (any_reads c.literals) ps quiet)) (ap not (none_new ps quiet))
+
+  pub still_is_refuted : (o : Obligation) → Fits flow outline → Contains (obligations flow outline) o → is_still flow outline o ≡ true → (k : ℕ) × IsRefutedPremise flow outline o k
+  still_is_refuted (Start i) fits listed still = cc
+  still_is_refuted (Enter o c) fits listed still = cc
+  still_is_refuted (Claim k j) fits listed still = cc
+  still_is_refuted (Own k c) fits listed still =
+      let p = and_parts (nat_lt c (length outline.invariants)) (is_quiet flow k.0) still in
+      again_is_refuted (Own k c) fits listed p.0 (λ d is. quiet_is_alike (step_prims flow k.0) d p.1)
+  still_is_refuted (Other k p c) fits listed still =
+      again_is_refuted (Other k p c) fits listed tt (λ d is. quiet_is_alike (step_prims flow k.0) d still)
+
   pub still_is_kept : (o : Obligation) → Fits flow outline → Contains (obligations flow outline) o → is_still flow outline o ≡ true → IsKept flow outline o
   still_is_kept o fits listed still =
       let r = still_is_refuted o fits listed still in
+      refuted_has_no_model (ground_set flow outline o) r.0 r.1.0.refuted
+
+  concluded_alike : (o : Obligation) → any_read_alike (executed flow o) (conclusion flow outline o) ≡ true → ReadsAlike o
+  concluded_alike o h c is = ap (any_read_alike (executed flow o)) (sym is) ∙ h
+
+  untouched_is_refuted : (o : Obligation) → Fits flow outline → Contains (obligations flow outline) o → is_untouched flow outline o ≡ true → (k : ℕ) × IsRefutedPremise flow outline o k
+  untouched_is_refuted (Start i) fits listed h = cc
+  untouched_is_refuted (Enter o c) fits listed h = cc
+  untouched_is_refuted (Claim k j) fits listed h = cc
+  untouched_is_refuted (Own k c) fits listed h =
+      let p = and_parts (nat_lt c (length outline.invariants)) (any_read_alike (step_prims flow k.0) (conclusion flow outline (Own k c))) h in
+      again_is_refuted (Own k c) fits listed p.0 (concluded_alike (Own k c) p.1)
+  untouched_is_refuted (Other k p c) fits listed h =
+      again_is_refuted (Other k p c) fits listed tt (concluded_alike (Other k p c) h)
+
+  pub untouched_is_kept : (o : Obligation) → Fits flow outline → Contains (obligations flow outline) o → is_untouched flow outline o ≡ true → IsKept flow outline o
+  untouched_is_kept o fits listed h =
+      let r = untouched_is_refuted o fits listed h in
       refuted_has_no_model (ground_set flow outline o) r.0 r.1.0.refuted

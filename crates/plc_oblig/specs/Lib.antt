@@ -5,6 +5,7 @@ pub mod Programs
 pub mod Outlines
 pub mod Walk
 pub mod Still
+pub mod Untouched
 pub mod Direct
 pub mod Alike
 -- words of private functions alone

@@ -16,6 +16,7 @@ mod refuted;
 mod runs;
 mod size;
 mod stillness;
+mod touching;
 mod trees;
 mod walk;
 
@@ -27,5 +28,6 @@ pub use grounding::{Grounding, ground};
 pub use plc_setting::{Obligation, program_uses_marks};
 pub use size::clauses;
 pub use stillness::{still, still_obligations_are_kept};
+pub use touching::{Part, untouched, untouched_obligations_are_kept};
 pub use trees::direct;
 pub use walk::{Walk, nth};
