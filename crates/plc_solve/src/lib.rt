@@ -18,4 +18,4 @@ mod split;
 mod survey;
 mod workspace;
 
-pub use search::{Answer, refute};
+pub use search::{Answer, find_model, refute};

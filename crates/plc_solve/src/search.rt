@@ -2,8 +2,9 @@
 // false under it and no two constants come together that must differ, it is a model. Else a false
 // clause is split. The stack of splits is a list, so no depth is too great. A split above the
 // present branch has a true equation on it, so a clause that is false wasn't split: none is twice.
-ghost use Rattle.std.specs.Prelude.{◌≡◌, ◌↔◌, ◌<◌, [], IfOk, length, reverse, vec_len};
+ghost use Rattle.std.specs.Prelude.{◌≡◌, ◌↔◌, ◌<◌, [], IfOk, IfSome, None, Ok, length, reverse, vec_len};
 ghost use Rattle.plc_ground.specs.Fit.{IsWellFormed};
+ghost use Rattle.plc_ground.specs.Model.{IsModel};
 ghost use Rattle.plc_ground.specs.Trees.{HasModel};
 ghost use Rattle.plc_solve.specs.Search.{CanSearch, IsPlace, Stands, Finds};
 ghost use Rattle.plc_solve.specs.Answers.{IsOpen, CarriesModel, CarriesTree};
@@ -181,4 +182,17 @@ pub fn refute(alloc: Global, set: &GroundSet) -> Result<Answer, NoMemory>
     ensures exact { IfOk result (λ answer. IsOpen answer ↔ HasModel set.now) }
 {
     Ok(solve(alloc, set)?)
+}
+
+/// A model of the set, or `None` exactly where it has none: what `refute` answers, without the tree. It doesn't
+/// recurse. The one error is that memory runs out.
+pub fn find_model(alloc: Global, set: &GroundSet) -> Result<Option<GroundModel>, NoMemory>
+    requires { IsWellFormed set.now }
+    ensures model { IfOk result (λ found. IfSome found (λ model. IsModel set.now model.class)) }
+    ensures none { result ≡ Ok None → HasModel set.now → ⊥ }
+{
+    match solve(alloc, set)? {
+        Answer::Open(model) => Ok(Some(model)),
+        Answer::Closed(_tree) => Ok(None),
+    }
 }
