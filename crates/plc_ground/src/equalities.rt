@@ -3,11 +3,11 @@
 // and Oliveras, "Fast congruence closure and extensions", 2007.) There is one table for all
 // branches: it is extended by the literal of a child, and taken back where the child is left. A trail
 // has what each change wrote over, so taking back costs what extending did, and nothing is copied
-// where a branch forks.
+// where a branch forks. It also has for each change the two terms that were joined then, so that who asks
+// why two terms are equal may go along the joins; what he finds he has to test, since nothing is proved of them.
 //
 // Classes that are joined are the only ones in which applications can clash, so these alone are
-// searched. Union by size and a forest of reasons win little on sets of a hundred terms, and each
-// would have to be kept true by proof.
+// searched. Union by size wins little on sets of a hundred terms, and would have to be kept true by proof.
 ghost use Rattle.std.specs.Prelude.{◌≡◌, ◌≢◌, ◌↔◌, ◌+◌, ◌-◌, ◌<◌, ◌≤◌, ◌==◌, ℕ, length};
 ghost use Rattle.std.specs.Prelude.{slice_index, slice_set, Some, IfSome, IfNone, List, sum, ◌^◌, All};
 ghost use Rattle.std.specs.Prelude.{IfOk, OnOk, take, drop, ◌∷◌, ◌++◌, [], Ok, true, false, IsTrue};
@@ -23,11 +23,14 @@ use crate::terms::{GroundSet, GroundTerm, Lit, term_at};
 use plc_base::Items;
 use std::alloc::{AllocError, Global};
 
-/// What a change wrote over: the class that a term had.
+/// What a change wrote over: the class that a term had. `left` and `right` are the two terms that were joined: the
+/// sides of the literal that was put, or two applications of one map to terms that are equal.
 #[derive(Clone, Copy)]
 pub struct Change {
     pub(crate) term: u32,
     pub(crate) class: u32,
+    pub left: u32,
+    pub right: u32,
 }
 
 /// The terms that a branch makes equal, as a class for each term, and how to take that back.
@@ -39,8 +42,14 @@ pub struct Equalities {
     pub(crate) joined: Items<u32>,
 }
 
-/// Puts a term into a class.
-fn shift(equal: &mut Equalities, k: usize, low: u32) -> Result<(), AllocError>
+/// Puts a term into a class, since these two terms are joined.
+fn shift(
+    equal: &mut Equalities,
+    k: usize,
+    low: u32,
+    left: u32,
+    right: u32,
+) -> Result<(), AllocError>
     requires few { length equal.old.class < 2 ^ 32 }
     requires range { k < length equal.old.class }
     ensures class { OnOk result (equal.new.class ≡ slice_set equal.old.class k low) }
@@ -51,13 +60,22 @@ fn shift(equal: &mut Equalities, k: usize, low: u32) -> Result<(), AllocError>
     equal.trail.push(Change {
         term: k as u32,
         class,
+        left,
+        right,
     })?;
     equal.class.set(k, low);
     Ok(())
 }
 
-/// Puts the terms of class `high` into class `low`, in which clashes are to be looked for.
-fn merge(equal: &mut Equalities, low: u32, high: u32) -> Result<(), AllocError>
+/// Puts the terms of class `high` into class `low`, in which clashes are to be looked for, since these two terms are
+/// joined.
+fn merge(
+    equal: &mut Equalities,
+    low: u32,
+    high: u32,
+    left: u32,
+    right: u32,
+) -> Result<(), AllocError>
     requires few { length equal.old.class < 2 ^ 32 }
     requires lower { low < high }
     ensures joins { OnOk result (Joins equal.old.class equal.new.class low high) }
@@ -69,7 +87,7 @@ fn merge(equal: &mut Equalities, low: u32, high: u32) -> Result<(), AllocError>
 {
     for k in 0..equal.class.len() {
         if equal.class.as_slice()[k] == high {
-            shift(equal, k, low)?;
+            shift(equal, k, low, left, right)?;
         }
     }
     equal.joined.push(low)?;
@@ -86,10 +104,11 @@ fn join(equal: &mut Equalities, x: usize, y: usize) -> Result<(), AllocError>
 {
     let a = equal.class.as_slice()[x];
     let b = equal.class.as_slice()[y];
+    let (left, right) = (x as u32, y as u32);
     if a < b {
-        return merge(equal, a, b);
+        return merge(equal, a, b, left, right);
     }
-    merge(equal, b, a)
+    merge(equal, b, a, left, right)
 }
 
 /// Whether the term at a place of a list has this class.
@@ -390,6 +409,13 @@ fn take_back_one(equal: &mut Equalities)
     let change = newest(equal);
     restore(equal, change);
     equal.trail.truncate(equal.trail.len() - 1);
+}
+
+/// The changes since the table of no literals, the newest last.
+pub fn changes(equal: &Equalities) -> &[Change]
+    ensures { result.now ≡ equal.now.trail }
+{
+    equal.trail.as_slice()
 }
 
 /// How many changes there are: the mark to which `take_back` goes.

@@ -175,7 +175,28 @@ fn better(set: &GroundSet, survey: &Survey, class: &[u32], best: Option<Choice>,
     }
 }
 
-/// A false clause with the fewest open literals. `seen` has for each clause where a literal was last
+/// A false clause of one literal. A clause of one literal holds on every branch, so most are true once they were split,
+/// and what they contradict closes the branch before any other clause makes the search branch.
+fn false_single(
+    set: &GroundSet,
+    survey: &Survey,
+    class: &[u32],
+    seen: &mut [usize],
+) -> Option<Choice>
+    requires classed { IsClassed set.now class.now }
+    requires seen { length seen.old ≡ length set.now.clauses }
+    ensures { IfSome result (λ b. (b.clause < length set.now.clauses) × IsFalse set.now class.now b.clause) }
+{
+    for single in &survey.singles {
+        let c = *single as usize;
+        if c < set.clauses.len() && is_false(set, class, c, &mut seen[c]) {
+            return Some(Choice { clause: c, open: 0 });
+        }
+    }
+    None
+}
+
+/// A false clause with the fewest open literals, the first of one literal if there is one. `seen` has for each clause where a literal was last
 /// seen true.
 fn choose(set: &GroundSet, survey: &Survey, class: &[u32], seen: &mut [usize]) -> Option<Choice>
     requires classed { IsClassed set.now class.now }
@@ -185,6 +206,9 @@ fn choose(set: &GroundSet, survey: &Survey, class: &[u32], seen: &mut [usize]) -
     ensures none { IfNone result ((c : ℕ) → c < length set.now.clauses
         → Any (HoldsIn (slice_index class.now)) (literals set.now c)) }
 {
+    if let Some(single) = false_single(set, survey, class, seen) {
+        return Some(single);
+    }
     let mut best = None;
     for c in 0..set.clauses.len() {
         if is_false(set, class, c, &mut seen[c]) {

@@ -45,7 +45,7 @@ pub(crate) fn hand_up(
     ensures closed { IfOk result (λ o. IfSome o (λ all. ClosesAll set.now all.items)) }
 {
     while let Some(mut top) = frames.pop() {
-        cut(forest, &place.branch, top.depth);
+        cut(forest, top.depth);
         go_up(place, &top);
         let own = own_literal(set, &top);
         if has(&done.core, own) {

@@ -45,7 +45,7 @@ fn search(
     ensures { IfOk result (Finds subject.now.set.now place.new) }
 {
     'search: while let Some(mut top) = frames.pop() {
-        cut(&mut work.forest, &place.branch, top.depth);
+        cut(&mut work.forest, top.depth);
         go_up(place, &top);
         match take_child(subject, seen, last, work, &mut top, place)? {
             Step::Open => return Ok(None),

@@ -20,7 +20,7 @@ use crate::frame::{Frame, Step, take_leaf};
 use crate::place::Place;
 use crate::survey::{Subject, Survey};
 use crate::workspace::{Workspace, empty_lists};
-use plc_ground::{GroundSet, Lit, classes, clause, mark, put};
+use plc_ground::{GroundSet, Lit, changes, classes, clause, mark, put};
 use std::alloc::{AllocError, Global};
 
 /// What an equation more makes of a branch.
@@ -89,9 +89,10 @@ fn descend(
     ensures descends { IfOk result (Descends set.now place.old l place.new) }
     ensures goes_on { OnOk result (GoesOn place.old place.new) }
 {
+    let (before, depth) = (mark(&place.equal), place.branch.len());
     put(set, &survey.table, &mut place.equal, l)?;
     place.branch.push(l)?;
-    grow(forest, &place.branch);
+    grow(forest, changes(&place.equal), before, depth)?;
     if let Some(pair) = conflict(set, survey.groups.as_slice(), classes(&place.equal), last) {
         return Ok(Descent::Conflict(pair));
     }

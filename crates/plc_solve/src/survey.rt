@@ -23,6 +23,8 @@ pub(crate) struct Survey {
     pub groups: Items<Items<u32>>,
     /// The inequations that are the one literal of a clause. They hold in every model.
     pub units: Vec<Lit>,
+    /// The clauses of one literal, which are looked at first. Nothing rests on it that each of them is here.
+    pub singles: Vec<u32>,
 }
 
 /// What the search speaks of throughout: a set, with its survey.
@@ -161,6 +163,28 @@ fn units(alloc: Global, set: &GroundSet) -> Result<Vec<Lit>, AllocError>
     Ok(list)
 }
 
+/// Lists a clause, where it has one literal.
+fn list_single(set: &GroundSet, list: &mut Vec<u32>, c: usize) -> Result<(), AllocError>
+    requires well { IsWellFormed set.now }
+    requires clause { c < length set.now.clauses }
+{
+    if clause(set, c).len() == 1 {
+        list.push(c as u32)?;
+    }
+    Ok(())
+}
+
+/// The clauses of one literal.
+fn singles(alloc: Global, set: &GroundSet) -> Result<Vec<u32>, AllocError>
+    requires { IsWellFormed set.now }
+{
+    let mut list = Vec::new(alloc);
+    for c in 0..set.clauses.len() {
+        list_single(set, &mut list, c)?;
+    }
+    Ok(list)
+}
+
 /// Surveys a set.
 pub(crate) fn take_survey(alloc: Global, set: &GroundSet) -> Result<Survey, AllocError>
     requires { IsWellFormed set.now }
@@ -170,5 +194,6 @@ pub(crate) fn take_survey(alloc: Global, set: &GroundSet) -> Result<Survey, Allo
         table: list_applications(alloc, set)?,
         groups: groups(alloc, set)?,
         units: units(alloc, set)?,
+        singles: singles(alloc, set)?,
     })
 }

@@ -44,7 +44,7 @@ loop-top-preserved c =
     c.args.done.now.core.items (Split c.args.done.now.clause ∷ c.args.done.now.nodes.items)
     c.loop-top.invariant.stands c.loop-top.invariant.closes c.go_up.new.place c.go_up.ensures c.own_literal-own.result c.own_literal-own.ensures
     (λ h. c.has.ensures.no c.if-has.false (subst (λ (ls : List Lit). Contains ls c.own_literal-own.result)
-    (sym c.deref-in-Some.ensures.value) h)) in
+    (sym c.deref.ensures.value) h)) in
     record {
       stands = step.0;
       closes = step.1;
