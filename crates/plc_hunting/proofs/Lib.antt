@@ -1,2 +1,4 @@
+pub mod Exact
 pub mod Found
 pub mod Leading
+pub mod Safe

@@ -1,5 +1,7 @@
 -- what contracts of public calls say
 pub mod Texts
 pub mod Racing
+pub mod Laws
 -- words of private functions alone
+pub mod Ends
 pub mod Trails

@@ -6,9 +6,11 @@
 mod account;
 mod asking;
 mod hunting;
+mod laws;
 mod quarry;
 mod racing;
 mod writing;
 
 pub use asking::hunt;
 pub use hunting::{Hunted, hunt_freely, hunt_under};
+pub use laws::safe_files_have_no_hunted_race;

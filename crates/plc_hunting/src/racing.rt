@@ -1,7 +1,8 @@
 // That what was found is a race is found out here, by following it once more: nothing of how it was found is trusted.
-ghost use Rattle.std.specs.Prelude.{◌≡◌, ◌<◌, IfOk, IsTrue};
+ghost use Rattle.std.specs.Prelude.{◌≡◌, ◌<◌, false, IfOk, IsTrue};
 ghost use Rattle.plc_flow.specs.WellFormed.{FlowFits};
 ghost use Rattle.plc_run.specs.Position.{IsOfRun, threads_of};
+ghost use Rattle.plc_hunting.specs.Ends.{is_race};
 ghost use Rattle.plc_hunting.specs.Racing.{IsRacingSchedule, LeadsToRace, IsRacingRun};
 
 use plc_auto::Observer;
@@ -10,11 +11,21 @@ use plc_check::Judged;
 use plc_cli::{Recorded, end_of};
 use plc_flow::Flow;
 use plc_reclaim::Reclaimer;
-use plc_replay::End;
+use plc_replay::{End, schedules_come_to_one_end};
 use plc_run::{Config, Moved};
 use plc_sched::{SchedFault, Schedule, read_schedule};
 use plc_threads::{Move, StartFault};
 use std::alloc::Global;
+
+/// Whether an end is a race.
+fn is_race(end: End) -> bool
+    ensures { result ≡ is_race end }
+{
+    match end {
+        End::Race { .. } => true,
+        End::Ended { .. } | End::Impossible { .. } | End::ForbiddenFree { .. } => false,
+    }
+}
 
 /// Whether the bytes spell a schedule that comes to a race under a reclaimer. The one error is that memory runs out.
 pub fn schedule_races(
@@ -26,6 +37,8 @@ pub fn schedule_races(
     requires flow { FlowFits judged.now.flow }
     ensures races { IfOk result (λ races. IsTrue races
         → IsRacingSchedule judged.now (meanings reclaimer.old) bytes.now) }
+    ensures exactly { IfOk result (λ races. IsRacingSchedule judged.now (meanings reclaimer.old) bytes.now
+        → IsTrue races) }
 {
     let schedule = match read_schedule(alloc, bytes) {
         Ok(schedule) => schedule,
@@ -36,10 +49,9 @@ pub fn schedule_races(
         judged,
         schedule: &schedule,
     };
-    match end_of(alloc, recorded, reclaimer)? {
-        End::Race { .. } => Ok(true),
-        _ => Ok(false),
-    }
+    schedules_come_to_one_end();
+    let end = end_of(alloc, recorded, reclaimer)?;
+    Ok(is_race(end))
 }
 
 /// Whether moves lead from here to a race, which is the last of them.
@@ -52,8 +64,11 @@ fn leads_to_race(
     requires fits { FlowFits flow.now }
     requires some { 0 < threads_of config.old }
     requires of_run { IsOfRun flow.now observer.now config.old }
+    requires goes { config.old.ended ≡ false }
     ensures races { IfOk result (λ races. IsTrue races
         → LeadsToRace flow.now observer.now (threads_of config.old) config.old.here moves.now) }
+    ensures exactly { IfOk result (λ races.
+        LeadsToRace flow.now observer.now (threads_of config.old) config.old.here moves.now → IsTrue races) }
 {
     for k in 0..moves.len() {
         match config.step(flow, observer, &moves[k])? {
@@ -77,6 +92,7 @@ pub fn run_races(
     requires fits { FlowFits flow.now }
     requires some { 0 < threads }
     ensures races { IfOk result (λ races. IsTrue races → IsRacingRun flow.now observer.now threads moves.now) }
+    ensures exactly { IfOk result (λ races. IsRacingRun flow.now observer.now threads moves.now → IsTrue races) }
 {
     match Config::start(alloc, flow, observer, threads) {
         Ok(mut config) => leads_to_race(flow, observer, &mut config, moves),
