@@ -9,10 +9,10 @@ ghost use Rattle.plc_oblig.specs.Programs.{ProgramFits, obligations_of};
 ghost use Rattle.plc_oblig.specs.Outlines.{IsKept};
 ghost use Rattle.plc_check.specs.Counterexamples.{IsCounterexampleAt, NotedAreKept};
 
-use crate::tree::{Shown, solve_at};
 use plc_base::NoMemory;
 use plc_ground::{GroundModel, GroundSet};
 use plc_oblig::{Annotated, Grounding, Noted, Obligation, still, untouched};
+use plc_solve::find_model;
 
 /// An obligation that isn't kept, with its ground set and a model of it.
 #[derive(Drop)]
@@ -41,6 +41,30 @@ fn is_known_kept(program: &Annotated<'_>, kept: &Noted, o: &Obligation) -> bool
     }
 }
 
+/// What breaks one obligation, if it isn't kept, as the solver answers to its ground set.
+fn broken_at(
+    memory: &mut Grounding,
+    program: &Annotated<'_>,
+    obligation: Obligation,
+) -> Result<Option<Counterexample>, NoMemory>
+    requires fits { ProgramFits program.now }
+    ensures { IfOk result (IsCounterexampleAt program.now.flow.now program.now.outline.now obligation) }
+{
+    let set = memory.ground(program, &obligation)?;
+    match find_model(memory.alloc, &set) {
+        Ok(Some(model)) => Ok(Some(Counterexample {
+            obligation,
+            set,
+            model,
+        })),
+        Ok(None) => {
+            memory.reuse(set);
+            Ok(None)
+        }
+        Err(NoMemory) => Err(NoMemory),
+    }
+}
+
 /// What breaks one obligation, if it isn't kept. One that is kept is noted.
 pub(crate) fn counterexample_at(
     memory: &mut Grounding,
@@ -61,10 +85,12 @@ pub(crate) fn counterexample_at(
         kept.note(&obligation, 0)?;
         return Ok(None);
     }
-    let Shown::Broken(found) = solve_at(memory, program, obligation)? else {
-        // Only that it is found counts here, so it may have any number.
-        kept.note(&obligation, 0)?;
-        return Ok(None);
-    };
-    Ok(Some(found))
+    match broken_at(memory, program, obligation)? {
+        Some(found) => Ok(Some(found)),
+        None => {
+            // Only that it is found counts here, so it may have any number.
+            kept.note(&obligation, 0)?;
+            Ok(None)
+        }
+    }
 }

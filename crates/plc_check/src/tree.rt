@@ -33,7 +33,7 @@ pub(crate) enum AllShown {
 }
 
 /// A tree that closes the ground set of an obligation, or what breaks the obligation, as the solver answers.
-pub(crate) fn solve_at(
+fn solve_at(
     memory: &mut Grounding,
     program: &Annotated<'_>,
     obligation: Obligation,
