@@ -71,6 +71,11 @@ abbrev pub name_or_none : Option (PlacedForm (Bor Text)) → Option (Placed Text
 name_or_none None = None
 name_or_none (Some n) = Some (name_tree n)
 
+-- a number that may be left out
+abbrev pub number_or_none : Option (PlacedForm ℕ) → Option (Placed ℕ)
+number_or_none None = None
+number_or_none (Some n) = Some (number_tree n)
+
 -- ---- declarations
 
 abbrev pub field_tree : Declaration → FieldTree

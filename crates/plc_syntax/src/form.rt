@@ -3,7 +3,7 @@
 // their place, so that nobody above counts tokens.
 
 /// What stands at a place.
-#[derive(Clone, Copy)]
+#[derive(Clone, Copy, Drop)]
 pub struct Placed<T> {
     /// The number of its first token, counted from 0.
     pub at: u32,

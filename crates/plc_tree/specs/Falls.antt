@@ -3,6 +3,7 @@ use Rattle.std.specs.Prelude.{◌+◌, ◌≤◌, List, [], ◌∷◌, Some, Non
 use Rattle.std.proofs.Common.{arith}
 use denote.Param.Weighed.{most}
 use Rattle.plc_syntax.specs.Trees.{BlockTree}
+use Rattle.plc_syntax.specs.declared.form.Placed.{Placed}
 use Rattle.plc_tree.specs.declared.tree.Stmt.{Stmt}
 use Rattle.plc_tree.specs.declared.tree.Stmt.TheVariants as stmts
 use Rattle.plc_tree.specs.declared.tree.Block.TheDeep.{deep-Stmt}
