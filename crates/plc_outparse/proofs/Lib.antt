@@ -1,5 +1,4 @@
 pub mod AtFront
 pub mod Fits
 pub mod InTurn
-pub mod Lengths
 pub mod Marked

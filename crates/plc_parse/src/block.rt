@@ -14,7 +14,7 @@ use crate::statement::{atomic, break_statement, call_statement, label, primitive
 use plc_lang::{Block, Line, Stmt};
 use plc_lex::Token;
 use plc_scope::{Meaning, Scope, condition};
-use plc_syntax::{Call, Condition, Placed};
+use plc_syntax::{Call, Condition};
 use plc_tree::{Block as BlockForm, Stmt as StmtForm};
 use std::alloc::Global;
 
@@ -168,9 +168,9 @@ pub fn statements(context: Context, scope: &mut Scope, block: &BlockForm) -> Mea
         scope.old scope.new result }
 {
     let mut lines = Vec::new(context.alloc);
-    for Placed { at, value } in block.stmts() {
-        let line = line_at(context.tokens, *at);
-        let stmt = statement(context, scope, *at, value)?;
+    for form in block.stmts() {
+        let line = line_at(context.tokens, form.at);
+        let stmt = statement(context, scope, form.at, &form.value)?;
         lines.push(Line { line, stmt })?;
     }
     Ok(Block::new(lines))

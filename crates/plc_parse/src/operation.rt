@@ -76,8 +76,9 @@ pub fn operations(
     ensures labels { IfOk result (λ _. length scope.new.labels ≤ most_labels) }
 {
     let mut ops = Items::new(alloc);
-    for Placed { at, value } in forms {
-        let op = operation(alloc, scope, tokens, ops.len(), line_at(tokens, *at), value)?;
+    for form in forms {
+        let line = line_at(tokens, form.at);
+        let op = operation(alloc, scope, tokens, ops.len(), line, &form.value)?;
         ops.push(op)?;
     }
     Ok(ops)
