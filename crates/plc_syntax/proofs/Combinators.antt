@@ -58,7 +58,7 @@ kinds_plain (t ∷ ts) = ap (λ us. t ∷ us) (kinds_plain ts)
 
 -- how many tokens there are with those after them
 pub count_before : (p : Pieces) (r : Tokens) → length (kinds_of p ++ r) ≡ length p + length r
-count_before [] r = refl
+count_before [] r = omega arith
 count_before (t ∷ p) r = let more = count_before p r in omega arith
 
 in_place_append : (p q : Pieces) (at : ℕ) → AreInPlace at p → AreInPlace (at + length p) q → AreInPlace at (p ++ q)
@@ -534,7 +534,7 @@ number_law = led_law number_choice (fault (at_place 0 0) (numeral (at_place 0 0)
 -- ---- a form at its place
 
 module _ (at : ℕ) where
-  from_kinds : (p : Pieces) → kinds_of (from_place at p) ≡ kinds_of p
+  pub from_kinds : (p : Pieces) → kinds_of (from_place at p) ≡ kinds_of p
   from_kinds [] = refl
   from_kinds (t ∷ p) = refl
 
@@ -551,7 +551,7 @@ module _ (at : ℕ) where
   from_before (t ∷ p) some q = refl
 
   -- the place is that of the first token that was passed, or of the first after them
-  rest_from : Pieces → Pieces → Pieces
+  abbrev rest_from : Pieces → Pieces → Pieces
   rest_from [] rest = from_place at rest
   rest_from (t ∷ p) rest = rest
 
@@ -565,26 +565,26 @@ module _ (at : ℕ) where
   rest_before [] (t ∷ rest) some q = refl
   rest_before (t ∷ p) rest some q = refl
 
--- whatever begins a form begins it at its place
-pub begun_at : (begins : TokenKind → Bool) (at : ℕ) (p : Pieces)
-    → first_is begins (kinds_of (from_place at p)) ≡ first_is begins (kinds_of p)
-begun_at begins at [] = refl
-begun_at begins at (t ∷ p) = refl
+-- a form at its place begins as it
+pub begun_there : {X : Type 0} (s : Spelling X) (begins : TokenKind → Bool)
+    → ((x : X) (q : Pieces) → first_is begins (kinds_of (s x q)) ≡ true) → (x : Placed X) (q : Pieces)
+    → first_is begins (kinds_of (placed_then s x q)) ≡ true
+begun_there s begins begun x q = ap (first_is begins) (from_kinds x.at (s x.value q)) ∙ begun x.value q
 
 -- what begins isn't nothing
-pub some_begun : {X : Type 0} {s : Spelling X} (begins : TokenKind → Bool)
-    → ((x : X) (q : Pieces) → first_is begins (kinds_of (s x q)) ≡ true) → (x : X) → s x [] ≡ [] → ⊥
-some_begun {s = s} begins begun x e =
-    let b = begun x [] in
+pub some_begun : {X : Type 0} (s : Spelling X) (begins : TokenKind → Bool)
+    → ((x : X) (q : Pieces) → first_is begins (kinds_of (s x q)) ≡ true) → (x : X) (q : Pieces) → s x q ≡ [] → ⊥
+some_begun s begins begun x q e =
+    let b = begun x q in
     let none : first_is begins (kinds_of []) ≡ true = ap (λ p. first_is begins (kinds_of p)) (sym e) ∙ b in
     cc
 
-module _ {X : Type 0} {s : Spelling X} (some : (x : X) → s x [] ≡ [] → ⊥) (n : ℕ) (f : Fuelled X) where
+module _ {X : Type 0} {s : Spelling X} (some : (x : X) (q : Pieces) → s x q ≡ [] → ⊥) (n : ℕ) (f : Fuelled X) where
   placed_is : (at : ℕ) (ts : Tokens) (o : Read X) → Is s same f n at ts o
       → Is (placed_then s) same (λ m at ts. placed_of (f m) at ts) n at ts (o >>= λ x end ts. Ok (at_place at x, end, ts))
   placed_is at ts (Ok y) w =
       let h = w.read in
-      let any : h.passed ≡ [] → ⊥ = λ e. some y.0 (h.spelled [] ∙ ap (λ p. p ++ []) e) in
+      let any : h.passed ≡ [] → ⊥ = λ e. some y.0 [] (h.spelled [] ∙ ap (λ p. p ++ []) e) in
       record {
         read = record {
           passed = from_place at h.passed;
@@ -598,7 +598,7 @@ module _ {X : Type 0} {s : Spelling X} (some : (x : X) → s x [] ≡ [] → ⊥
       }
   placed_is at ts (Err e) w =
       let h = w.read in
-      let any : h.passed ++ (h.rest ++ []) ≡ [] → ⊥ = λ e. some h.tree (h.goes_on [] ∙ e) in
+      let any : h.passed ++ (h.rest ++ []) ≡ [] → ⊥ = λ e. some h.tree [] (h.goes_on [] ∙ e) in
       record {
         read = record {
           passed = from_place at h.passed;
@@ -614,20 +614,20 @@ module _ {X : Type 0} {s : Spelling X} (some : (x : X) → s x [] ≡ [] → ⊥
         };
       }
 
-pub placed_law : {X : Type 0} {n : ℕ} {s : Spelling X} {f : Fuelled X} → ((x : X) → s x [] ≡ [] → ⊥)
+pub placed_law : {X : Type 0} {n : ℕ} {s : Spelling X} {f : Fuelled X} → ((x : X) (q : Pieces) → s x q ≡ [] → ⊥)
     → Law n s same (λ m at ts. f m at ts) → Law n (placed_then s) same (λ m at ts. placed_of (f m) at ts)
 placed_law {n = n} {f = f} some law at ts l = placed_is some n f at ts (f n at ts) (law at ts l)
 
-pub early_placed : {X : Type 0} {n : ℕ} {s : Spelling X} {f : Fuelled X} → ((x : X) → s x [] ≡ [] → ⊥)
+pub early_placed : {X : Type 0} {n : ℕ} {s : Spelling X} {f : Fuelled X} → ((x : X) (q : Pieces) → s x q ≡ [] → ⊥)
     → Early n s same (λ m at ts. f m at ts) → Early n (placed_then s) same (λ m at ts. placed_of (f m) at ts)
 early_placed {n = n} {f = f} some law at t ts l = placed_is some n f at (t ∷ ts) (f n at (t ∷ ts)) (law at t ts l)
 
 -- ---- what was read
 
 -- the tokens are the tree's that was read, and each place in it is that of its token
-pub read_is_of : {X : Type 0} {s : Spelling X} {f : Fuelled X} (n at : ℕ) (ts : Tokens) (x : X) (after : ℕ) (r : Tokens)
-    → Whole s same f n at ts x after r → AreOf s x at ts r
-read_is_of {s = s} n at ts x after r h = record {
+pub read_is_of : {X : Type 0} {s : Spelling X} {f : Fuelled X} (n at : ℕ) (ts : Tokens) (x : X) (end : ℕ) (r : Tokens)
+    → Whole s same f n at ts x end r → AreOf s x at ts r
+read_is_of {s = s} n at ts x end r h = record {
   tokens = h.split ∙ ap (λ us. kinds_of h.passed ++ us) (sym (kinds_plain r))
       ∙ sym (ap kinds_of (h.spelled (map plain r)) ∙ kinds_before h.passed (map plain r));
   places = subst (λ p. AreInPlace at p) (sym (h.spelled (map plain r)))
@@ -706,7 +706,7 @@ module _ {X Y : Type 0} (s : Spelling X) (cons : X → Y → Y) (nil : Y) (list 
         → Is list same goes n at ts (o >>= λ x at ts. others x n at ts)
     goes_by at ts l le (Ok x) w =
         let h = w.read in
-        let some : h.passed ≡ [] → ⊥ = λ e. some_begun begins begun x.0 (h.spelled [] ∙ ap (λ p. p ++ []) e) in
+        let some : h.passed ≡ [] → ⊥ = λ e. some_begun s begins begun x.0 [] (h.spelled [] ∙ ap (λ p. p ++ []) e) in
         let fewer = shorter h.passed ts x.2 some h.split in
         joined n s same list same item others at ts x.0 x.1 x.2 h (others x.0 n x.1 x.2)
         (others_law x.0 x.1 x.2 (omega arith))

@@ -4,3 +4,4 @@ pub mod Combinators
 pub mod Depths
 pub mod FormLaws
 pub mod Marked
+pub mod Unplaced

@@ -46,7 +46,8 @@ pub fn value_at<'a>(rest: Rest<'a>) -> Read<'a, Value<'a>>
         (Front::Word(Keyword::Null), after) => Ok((Value::Null(rest.at), after)),
         (Front::Word(Keyword::New), after) => Ok((Value::New(rest.at), after)),
         (Front::Number(n), after) => Ok((Value::Number(n), after)),
-        (Front::Word(Keyword::Mark), after) => within!(Value::Mark(rest.at, name); name = name_at(after)),
+        (Front::Word(Keyword::Mark), after) =>
+            within!(Value::Mark(rest.at, name); name = name_at(after)),
         (Front::Word(Keyword::Unmark), after) =>
             within!(Value::Unmark(rest.at, name); name = name_at(after)),
         (Front::Name(name), after) =>
