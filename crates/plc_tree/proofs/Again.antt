@@ -146,20 +146,21 @@ primitive_statement_gets (trees.RefreshPrimitive (trees.RefreshName k x)) = λ a
     then _ (λ p. p) (primitive_gets (trees.RefreshPrimitive (trees.RefreshName k x)) at r)
     (λ y q e s. done (ap trees.PrimitiveStatement e) (λ p. (ap trees.PrimitiveStatement (s p).0, (s p).1.1)))
 primitive_statement_gets (trees.RefreshPrimitive (trees.RefreshField k f l)) = λ at r.
-    then _ (λ p. p) (primitive_gets (trees.RefreshPrimitive (trees.RefreshField k f l)) at r)
-    (λ y q e s. done (ap trees.PrimitiveStatement e) (λ p. (ap trees.PrimitiveStatement (s p).0, (s p).1.1)))
+    done refl (λ p. (
+      three (λ k f l. trees.PrimitiveStatement (trees.RefreshPrimitive (trees.RefreshField k f l)))
+          (there k p.0.0) (there f p.1.1.0.0) (there l p.1.1.1.1.0.0),
+      p.1.1.1.1.1.1,
+    ))
 primitive_statement_gets (trees.GhostPrimitive (trees.SetGhost k g v)) = λ at r.
     then _ (λ p. p) (line_gets (trees.GhostPrimitive (trees.SetGhost k g v)) at r)
     (λ y q e s. done (ap trees.PrimitiveStatement e) (λ p. (ap trees.PrimitiveStatement (s p).0, (s p).1)))
 primitive_statement_gets (trees.ActivePrimitive k) = λ at r.
-    then _ (λ p. p) (line_gets (trees.ActivePrimitive k) at r)
-    (λ y q e s. done (ap trees.PrimitiveStatement e) (λ p. (ap trees.PrimitiveStatement (s p).0, (s p).1)))
+    done refl
+    (λ p. (ap (λ k. trees.PrimitiveStatement (trees.ActivePrimitive k)) (there k p.1.0.0), p.1.1.1))
 primitive_statement_gets (trees.AssumePrimitive t) = λ at r.
     then _ (λ p. p) (line_gets (trees.AssumePrimitive t) at r)
     (λ y q e s. done (ap trees.PrimitiveStatement e) (λ p. (ap trees.PrimitiveStatement (s p).0, (s p).1)))
-primitive_statement_gets trees.SkipPrimitive = λ at r.
-    then _ (λ p. p) (line_gets trees.SkipPrimitive at r)
-    (λ y q e s. done (ap trees.PrimitiveStatement e) (λ p. (ap trees.PrimitiveStatement (s p).0, (s p).1)))
+primitive_statement_gets trees.SkipPrimitive = λ at r. done refl (λ p. (refl, p.1.1))
 
 -- statements and a closing brace are a block
 closed_gets : (b : trees.BlockTree) (at : ℕ) (r : Pieces)
@@ -275,8 +276,11 @@ op_gets (trees.Operates k ps ls b) at r =
     (λ qs at2 e s. then _ (λ p. (s p).1.1) (fields_get ls (at2 + 1) body (ends b r).no_field)
     (λ ms at3 f t. then _ (λ p. (t p).1) (block_gets b at3 r)
     (λ c at4 g u. done (three (trees.Operates (unplaced k)) e f g)
-    (λ p. (ap (λ k. trees.Operates k qs ms c) (there k p.1.0.0)
-    ∙ three (trees.Operates k) (s p).0 (t p).0 (u p).0, (u p).1)))))
+    (λ p. (
+      ap (λ k. trees.Operates k qs ms c) (there k p.1.0.0)
+          ∙ three (trees.Operates k) (s p).0 (t p).0 (u p).0,
+      (u p).1,
+    )))))
 
 -- ---- clauses of an outline
 
@@ -559,12 +563,12 @@ heading_gets f at =
         → a ≡ a' → b ≡ b' → c ≡ c' → d ≡ d' → g ≡ g' → h ≡ h' → headed a b c d g h ≡ headed a' b' c' d' g' h'
     six e1 e2 e3 e4 e5 e6 = cc
 
+abbrev whole : trees.FileTree → List (Placed trees.OpTree) → Option trees.OutlineTree → trees.FileTree
+whole h os o = record h { ops = os; outlined = o }
+
 pub file_gets : (f : trees.FileTree) (at : ℕ) → Gets bare.unplaced_file (AreInPlace at (trees.file_then f []))
     (λ m. forms.file_of m at (kinds_of (trees.file_then f []))) f []
 file_gets f at =
     then _ (λ p. p) (heading_gets f at) (λ h at e s. then _ (λ p. (s p).1) (ops_get f.ops f.outlined at)
     (λ os at e2 s2. then _ (λ p. (s2 p).1) (outlined_gets f.outlined at)
-    (λ o at e3 s3. done (three with e e2 e3) (λ p. (three with (s p).0 (s2 p).0 (s3 p).0, (s3 p).1)))))
-  where
-    abbrev with : trees.FileTree → List (Placed trees.OpTree) → Option trees.OutlineTree → trees.FileTree
-    with h os o = record h { ops = os; outlined = o }
+    (λ o at e3 s3. done (three whole e e2 e3) (λ p. (three whole (s p).0 (s2 p).0 (s3 p).0, (s3 p).1)))))
