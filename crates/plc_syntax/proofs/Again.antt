@@ -1,5 +1,5 @@
 -- The readers read the tokens of every tree of a form that holds no list, whatever stands after them, given fuel: a row
--- for each constructor. Read is the tree but for its places, and the tree itself where each of its places is that of its
+-- for each constructor. Read is the tree but for its places, and the tree itself where each place in it is that of its
 -- token. Only what may be left out asks that what follows is no beginning of it.
 use Rattle.std.proofs.Common.{◌≡◌, ◌∙◌, ◌+◌, ◌≤◌, ℕ, zero, suc, Bool, true, false, cond, Option, Some, None, List, []}
 use Rattle.std.proofs.Common.{◌∷◌, map, Ok, refl, sym, ap, arith}
@@ -11,7 +11,8 @@ use Rattle.plc_syntax.specs.Trees.{each_then, maybe_then}
 use Rattle.plc_syntax.specs.Syntax.{Spelling}
 use Rattle.plc_syntax.specs.Forms as forms
 use Rattle.plc_syntax.specs.Forms.{Read, Next, ◌>>=◌, led, chosen, at_place, placed_of, first_is, list_of}
-use Rattle.plc_syntax.proofs.Combinators.{Tokens, Fuelled, from_kinds}
+use Rattle.plc_syntax.proofs.Pieces.{Tokens, from_kinds}
+use Rattle.plc_syntax.proofs.Combinators.{Fuelled}
 use Rattle.plc_syntax.proofs.Unplaced as bare
 use Rattle.plc_syntax.proofs.Unplaced.{unplaced, unplaced_by, unplaced_maybe}
 
@@ -205,7 +206,8 @@ compared_gets : (k l : Placed Text) (c : Placed trees.Comparison) (a : trees.Ato
     → let q = trees.comparison c ∷ trees.atom_then a r in Gets bare.unplaced_test ((k ≡ l) × AreInPlace at q)
     (λ m. forms.compared_of k at (kinds_of q)) (trees.Compares l c a) r
 compared_gets k l c a at r e =
-    then _ (λ p. p.1) (placed_gets comparison_then (λ m at ts. forms.comparison_of at ts) c at (trees.atom_then a r) (λ e. cc) (comparison_gets c.value at (trees.atom_then a r)))
+    then _ (λ p. p.1) (placed_gets comparison_then (λ m at ts. forms.comparison_of at ts) c at (trees.atom_then a r)
+    (λ e. cc) (comparison_gets c.value at (trees.atom_then a r)))
     (λ d at f s. then _ (λ p. (s p).1) (atom_gets a at r) (λ b at g t. done (three trees.Compares e f g)
     (λ p. (three trees.Compares p.0 (s p).0 (t p).0, (t p).1))))
 
@@ -329,13 +331,15 @@ pub initial_gets : (i : trees.InitialTree) (at : ℕ) (r : Pieces)
     → Gets bare.unplaced_initial (AreInPlace at (trees.initial_then i r))
     (λ m. forms.initial_of at (kinds_of (trees.initial_then i r))) i r
 initial_gets (trees.InitialSet (trees.SetName k v)) at r =
-    then {us = symbol Semicolon ∷ r} _ (λ p. p) (then {given = AreInPlace at (trees.set_then (trees.SetName k v) (symbol Semicolon ∷ r))} _
+    then {us = symbol Semicolon ∷ r} _ (λ p. p)
+        (then {given = AreInPlace at (trees.set_then (trees.SetName k v) (symbol Semicolon ∷ r))} _
     (λ p. p.1.1) (value_gets v (at + 1 + 1) r)
     (λ y q e s. done (ap (trees.SetName (unplaced k)) e)
     (λ p. (both trees.SetName (there k p.0.0) (s p).0, (s p).1))))
     (λ y q e s. done (ap trees.InitialSet e) (λ p. (ap trees.InitialSet (s p).0, (s p).1.1)))
 initial_gets (trees.InitialSet (trees.SetField k f a)) at r =
-    then {us = symbol Semicolon ∷ r} _ (λ p. p) (then {given = AreInPlace at (trees.set_then (trees.SetField k f a) (symbol Semicolon ∷ r))} _
+    then {us = symbol Semicolon ∷ r} _ (λ p. p)
+        (then {given = AreInPlace at (trees.set_then (trees.SetField k f a) (symbol Semicolon ∷ r))} _
     (λ p. p.1.1.1.1) (atom_gets a (at + 1 + 1 + 1 + 1) (symbol Semicolon ∷ r))
     (λ y q e s. done (ap (trees.SetField (unplaced k) (unplaced f)) e)
     (λ p. (three trees.SetField (there k p.0.0) (there f p.1.1.0.0) (s p).0, (s p).1))))

@@ -8,7 +8,7 @@ use Rattle.plc_lex.specs.declared.token.Symbol.TheVariants.{OpenBrace, CloseBrac
 use Rattle.plc_syntax.specs.Trees.{Text, Placed, Pieces, kinds_of, symbol, placed_then, Comparison, comparison_symbol, each_then, maybe_then, comma_name_then, names_then, FieldTree, PointerField, DataField, field_then, shared_then, FunctionTree, Declares, function_then, WatchTree, UseHazard, UseEpoch, watch_then, OneOf, OfThreads, GhostTree, Auxiliary, ghost_then, PlaceTree, PlaceOf, place_then, AtomTree, NullAtom, NumberAtom, NameAtom, atom_then, ValueTree, NullValue, NewValue, NumberValue, MarkValue, UnmarkValue, PlaceValue, value_then, SetTree, SetName, SetField, set_then, RefreshTree, RefreshName, RefreshField, refresh_then, GhostValueTree, NameGhost, MeGhost, NoneGhost, ghost_value_then, GhostSetTree, SetGhost, ghost_set_then, InitialTree, InitialSet, InitialGhost, initial_then, init_then, TestTree, MarkedTest, UnmarkedTest, Compares, SameAs, OtherThan, LessThan, NotLessThan, test_then, name_or_null_then, ConditionTree, TestCondition, RefreshCondition, CasCondition, condition_then, PrimitiveTree, SetPrimitive, RefreshPrimitive, GhostPrimitive, ActivePrimitive, AssumePrimitive, SkipPrimitive, primitive_then, primitive_line_then, ArgumentTree, NoArgument, NullArgument, NameArgument, ActiveArgument, argument_then, during_then, StatementTree, PrimitiveStatement, AtomicStatement, CallStatement, IfStatement, ChooseStatement, LoopStatement, BreakStatement, ReturnStatement, LabelStatement, BlockTree, NoStatement, Then, ElseTree, NoElse, ElseBlock, OrTree, NoOr, OrBlock, statement_then, statements_then, else_then, or_then, parameters_then, OpTree, Operates, op_then, TermTree, PlaceTerm, NullTerm, NumberTerm, MeTerm, NoneTerm, term_then, FlagTree, RetiredFlag, MarkedFlag, flag_then, LiteralTree, FlagLiteral, NotLiteral, EqualityLiteral, literal_then, BoundTree, NoBound, AllOf, bound_then, or_literal_then, ClauseTree, Claims, clause_then, ItemTree, InvariantItem, OverItem, AtItem, item_then, depth_then, OutlineTree, Outlined, outline_then, FileTree, file_tokens}
 use Rattle.plc_syntax.specs.Nesting.{nesting_limit}
 use Rattle.plc_syntax.specs.Depth.{statement_depth, block_depth, else_depth, or_depth, op_depth, ops_depth, file_depth, DepthIsThatOfBraces}
-use Rattle.plc_syntax.proofs.Combinators.{from_kinds}
+use Rattle.plc_syntax.proofs.Pieces.{from_kinds}
 use Rattle.plc_syntax.proofs.Braced.{is_atomic, Fine, AnyToken, Shallow, shallow_tokens, tokens_shallow}
 
 -- the most braces that are open before the brace of a block, where so many were opened and closed before and the token before may be `atomic`

@@ -41,7 +41,8 @@ value_choice at (Word New) = takes_at _ (λ m. refl) (last (λ q. refl))
 value_choice at (Number k) = takes_at _ (λ m. refl) (last (λ q. refl))
 value_choice at (Word Mark) = takes_at _ (λ m. refl) (then_form name_law (λ k. last (λ q. refl)))
 value_choice at (Word Unmark) = takes_at _ (λ m. refl) (then_form name_law (λ k. last (λ q. refl)))
-value_choice at (Name k) = takes_at _ (λ m. refl) (then_whole (place_of_name_law (at_place at k)) (λ p. last (λ q. refl)))
+value_choice at (Name k) = takes_at _ (λ m. refl)
+    (then_whole (place_of_name_law (at_place at k)) (λ p. last (λ q. refl)))
 value_choice at _ = leaves (λ m. refl)
 
 value_law : {n : ℕ} → Law n trees.value_then same (λ m at ts. forms.value_of at ts)
@@ -56,7 +57,8 @@ atom_choice at _ = leaves (λ m. refl)
 atom_law : {n : ℕ} → Law n trees.atom_then same (λ m at ts. forms.atom_of at ts)
 atom_law = led_law atom_choice (fault (trees.NullAtom 0) (word_at 0 Null ∷ []) (tt, tt) (λ q. refl))
 
-ghost_value_choice : {n : ℕ} (at : ℕ) (t : TokenKind) → Choice n trees.ghost_value_then same (λ m. forms.ghost_value_next) at t
+ghost_value_choice : {n : ℕ} (at : ℕ) (t : TokenKind) → Choice n trees.ghost_value_then same
+    (λ m. forms.ghost_value_next) at t
 ghost_value_choice at (Name k) = takes_at _ (λ m. refl) (last (λ q. refl))
 ghost_value_choice at (Word Me) = takes_at _ (λ m. refl) (last (λ q. refl))
 ghost_value_choice at (Word NoneWord) = takes_at _ (λ m. refl) (last (λ q. refl))
@@ -96,7 +98,8 @@ comparison_choice at _ = leaves (λ m. refl)
 comparison_law : {n : ℕ} → Law n comparison_then same (λ m at ts. forms.comparison_of at ts)
 comparison_law = led_law comparison_choice (fault trees.SameAs (symbol Equal ∷ []) (tt, tt) (λ q. refl))
 
-compared_law : {n : ℕ} (k : Placed Text) → Law n trees.test_then (λ q. name k ∷ q) (λ m at ts. forms.compared_of k at ts)
+compared_law : {n : ℕ} (k : Placed Text) → Law n trees.test_then (λ q. name k ∷ q)
+    (λ m at ts. forms.compared_of k at ts)
 compared_law k = then_form (placed_law (λ c q e. cc) comparison_law) (λ c. then_form atom_law (λ a. last (λ q. refl)))
 
 test_choice : {n : ℕ} (at : ℕ) (t : TokenKind) → Choice n trees.test_then same (λ m. forms.test_next) at t
@@ -137,7 +140,8 @@ named_condition_law : {n : ℕ} (k : Placed Text)
     → Law n trees.condition_then (λ q. name k ∷ q) (λ m at ts. forms.named_condition_of k at ts)
 named_condition_law k = led_law (named_condition_choice k) (then_whole (compared_law k) (λ t. last (λ q. refl)))
 
-condition_choice : {n : ℕ} (at : ℕ) (t : TokenKind) → Choice n trees.condition_then same (λ m. forms.condition_next) at t
+condition_choice : {n : ℕ} (at : ℕ) (t : TokenKind) → Choice n trees.condition_then same
+    (λ m. forms.condition_next) at t
 condition_choice at (Word Cas) = takes _ (λ m. refl) cas_condition_law
 condition_choice at (Name k) = takes_at _ (λ m. refl) (named_condition_law (at_place at k))
 condition_choice at _ = leaves (λ m. refl)
@@ -156,7 +160,8 @@ field_tail_choice k f at _ = leaves (λ m. refl)
 field_tail_law : {n : ℕ} (k : Placed Text)
     → Law n trees.primitive_then (λ q. name k ∷ symbol Dot ∷ q) (λ m at ts. forms.field_tail_of k at ts)
 field_tail_law k = then_form name_law (λ f. led_law (field_tail_choice k f)
-    (fault (trees.SetPrimitive (trees.SetField k f (trees.NullAtom 0))) (symbol Assign ∷ word_at 0 Null ∷ []) (tt, (tt, tt))
+    (fault (trees.SetPrimitive (trees.SetField k f (trees.NullAtom 0))) (symbol Assign ∷ word_at 0 Null ∷ [])
+    (tt, (tt, tt))
     (λ q. refl)))
 
 named_tail_choice : {n : ℕ} (k : Placed Text) (at : ℕ) (t : TokenKind)
@@ -169,14 +174,16 @@ named_tail_choice k at _ = leaves (λ m. refl)
 pub named_tail_law : {n : ℕ} (k : Placed Text)
     → Law n trees.primitive_then (λ q. name k ∷ q) (λ m at ts. forms.named_tail_of k at ts)
 named_tail_law k = led_law (named_tail_choice k)
-    (fault (trees.SetPrimitive (trees.SetName k (trees.NullValue 0))) (symbol Assign ∷ word_at 0 Null ∷ []) (tt, (tt, tt))
+    (fault (trees.SetPrimitive (trees.SetName k (trees.NullValue 0))) (symbol Assign ∷ word_at 0 Null ∷ [])
+    (tt, (tt, tt))
     (λ q. refl))
 
 ghost_set_law : {n : ℕ} → Law n trees.ghost_set_then (λ q. word Ghost ∷ q) (λ m at ts. forms.ghost_set_of at ts)
 ghost_set_law = then_form (name_and_law Dot) (λ k. then_form (name_and_law Assign) (λ g.
     then_form ghost_value_law (λ v. last (λ q. refl))))
 
-primitive_choice : {n : ℕ} (at : ℕ) (t : TokenKind) → Choice n trees.primitive_then same (λ m. forms.primitive_next) at t
+primitive_choice : {n : ℕ} (at : ℕ) (t : TokenKind) → Choice n trees.primitive_then same
+    (λ m. forms.primitive_next) at t
 primitive_choice at (Name k) = takes_at _ (λ m. refl) (named_tail_law (at_place at k))
 primitive_choice at (Word Ghost) = takes _ (λ m. refl) (then_whole ghost_set_law (λ g. last (λ q. refl)))
 primitive_choice at (Word Active) = takes _ (λ m. refl) (then_form name_law (λ k. last (λ q. refl)))
@@ -196,7 +203,8 @@ set_field_law : {n : ℕ} (k : Placed Text)
     → Law n trees.set_then (λ q. name k ∷ symbol Dot ∷ q) (λ m at ts. forms.set_field_of k at ts)
 set_field_law k = then_form (name_and_law Assign) (λ f. then_form atom_law (λ a. last (λ q. refl)))
 
-set_choice : {n : ℕ} (k : Placed Text) (at : ℕ) (t : TokenKind) → Choice n trees.set_then (λ q. name k ∷ q) (λ m. forms.set_next k) at t
+set_choice : {n : ℕ} (k : Placed Text) (at : ℕ) (t : TokenKind) → Choice n trees.set_then (λ q. name k ∷ q)
+    (λ m. forms.set_next k) at t
 set_choice k at (Symbol Assign) = takes _ (λ m. refl) (then_form value_law (λ v. last (λ q. refl)))
 set_choice k at (Symbol Dot) = takes _ (λ m. refl) (set_field_law k)
 set_choice k at _ = leaves (λ m. refl)
@@ -206,7 +214,8 @@ set_law k = led_law (set_choice k)
     (fault (trees.SetName k (trees.NullValue 0)) (symbol Assign ∷ word_at 0 Null ∷ []) (tt, (tt, tt)) (λ q. refl))
 
 initial_choice : {n : ℕ} (at : ℕ) (t : TokenKind) → Choice n trees.initial_then same (λ m. forms.initial_next) at t
-initial_choice at (Name k) = takes_at _ (λ m. refl) (then_whole (set_law (at_place at k)) (λ s. then_symbol Semicolon (last (λ q. refl))))
+initial_choice at (Name k) = takes_at _ (λ m. refl)
+    (then_whole (set_law (at_place at k)) (λ s. then_symbol Semicolon (last (λ q. refl))))
 initial_choice at (Word Ghost) =
     takes _ (λ m. refl) (then_whole ghost_set_law (λ g. then_symbol Semicolon (last (λ q. refl))))
 initial_choice at _ = leaves (λ m. refl)
@@ -214,7 +223,8 @@ initial_choice at _ = leaves (λ m. refl)
 pub initial_law : (n : ℕ) → Law n trees.initial_then same (λ m at ts. forms.initial_of at ts)
 initial_law n = led_law initial_choice
     (fault (trees.InitialSet (trees.SetName a_name (trees.NullValue 0)))
-    (name a_name ∷ symbol Assign ∷ word_at 0 Null ∷ symbol Semicolon ∷ []) (a_name_fits, (tt, (tt, (tt, tt)))) (λ q. refl))
+    (name a_name ∷ symbol Assign ∷ word_at 0 Null ∷ symbol Semicolon ∷ []) (a_name_fits, (tt, (tt, (tt, tt))))
+    (λ q. refl))
 
 -- ---- calls
 
@@ -239,7 +249,8 @@ during_law = led_law during_choice (last (λ q. refl))
 
 -- ---- names after a comma
 
-comma_name_choice : {n : ℕ} (at : ℕ) (t : TokenKind) → Choice n trees.comma_name_then same (λ m. forms.comma_name_next) at t
+comma_name_choice : {n : ℕ} (at : ℕ) (t : TokenKind) → Choice n trees.comma_name_then same
+    (λ m. forms.comma_name_next) at t
 comma_name_choice at (Symbol Comma) = takes _ (λ m. refl) (within (λ q. symbol Comma ∷ q) name_law)
 comma_name_choice at _ = leaves (λ m. refl)
 
@@ -302,7 +313,8 @@ term_choice at (Word Null) = takes_at _ (λ m. refl) (last (λ q. refl))
 term_choice at (Number k) = takes_at _ (λ m. refl) (last (λ q. refl))
 term_choice at (Word Me) = takes_at _ (λ m. refl) (last (λ q. refl))
 term_choice at (Word NoneWord) = takes_at _ (λ m. refl) (last (λ q. refl))
-term_choice at (Name k) = takes_at _ (λ m. refl) (then_whole (place_of_name_law (at_place at k)) (λ p. last (λ q. refl)))
+term_choice at (Name k) = takes_at _ (λ m. refl)
+    (then_whole (place_of_name_law (at_place at k)) (λ p. last (λ q. refl)))
 term_choice at _ = leaves (λ m. refl)
 
 term_law : {n : ℕ} → Law n trees.term_then same (λ m at ts. forms.term_of at ts)
@@ -387,7 +399,8 @@ abbrev pub depth_then : Spelling (Option (Placed ℕ))
 depth_then d q = maybe_then trees.depth_then d q
 
 depth_choice : {n : ℕ} (at : ℕ) (t : TokenKind) → Choice n depth_then same (λ m. forms.depth_next) at t
-depth_choice at (Word Depth) = takes _ (λ m. refl) (then_form number_law (λ d. then_symbol Semicolon (last (λ q. refl))))
+depth_choice at (Word Depth) = takes _ (λ m. refl)
+    (then_form number_law (λ d. then_symbol Semicolon (last (λ q. refl))))
 depth_choice at _ = leaves (λ m. refl)
 
 pub depth_law : {n : ℕ} → Law n depth_then same (λ m at ts. forms.depth_of at ts)

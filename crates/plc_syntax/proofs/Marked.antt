@@ -1,8 +1,9 @@
 -- Which tokens use marks: form by form, each form's tokens before any others.
-use Rattle.std.proofs.Common.{◌≡◌, Bool, true, false, Some, None, List, [], ◌∷◌, ◌||◌, refl, ap, ◌∙◌}
+use Rattle.std.proofs.Common.{◌≡◌, Bool, true, false, Some, None, [], ◌∷◌, ◌||◌, refl, ap, ◌∙◌}
 use Rattle.std.specs.List.{list_any}
 use Rattle.plc_lex.specs.declared.token.Symbol.TheVariants.{CloseBrace, Semicolon}
-use Rattle.plc_syntax.specs.Trees.{Text, Placed, Pieces, kinds_of, symbol, placed_then, each_then, maybe_then, comma_name_then, names_then}
+use Rattle.plc_syntax.specs.Trees.{Text, Placed, Pieces, kinds_of, symbol, placed_then, each_then, maybe_then}
+use Rattle.plc_syntax.specs.Trees.{comma_name_then, names_then}
 use Rattle.plc_syntax.specs.Trees.{PointerField, DataField, field_then, shared_then}
 use Rattle.plc_syntax.specs.Trees.{Declares, function_then, UseHazard, UseEpoch, watch_then}
 use Rattle.plc_syntax.specs.Trees.{OneOf, OfThreads, Auxiliary, ghost_then}
@@ -24,11 +25,12 @@ use Rattle.plc_syntax.specs.Trees.{LabelStatement, NoStatement, Then, NoElse, El
 use Rattle.plc_syntax.specs.Trees.{NoOr, OrBlock, statement_then, statements_then, else_then, or_then}
 use Rattle.plc_syntax.specs.Trees.{parameters_then, Operates, op_then}
 use Rattle.plc_syntax.specs.Trees.{PlaceTerm, NullTerm, NumberTerm, MeTerm, NoneTerm, term_then}
-use Rattle.plc_syntax.specs.Trees.{RetiredFlag, MarkedFlag, flag_then, FlagLiteral, NotLiteral, EqualityLiteral, literal_then}
+use Rattle.plc_syntax.specs.Trees.{RetiredFlag, MarkedFlag, flag_then, FlagLiteral, NotLiteral, EqualityLiteral}
+use Rattle.plc_syntax.specs.Trees.{literal_then}
 use Rattle.plc_syntax.specs.Trees.{NoBound, AllOf, bound_then, or_literal_then, Claims}
 use Rattle.plc_syntax.specs.Trees.{clause_then, InvariantItem, OverItem, AtItem, item_then, depth_then}
 use Rattle.plc_syntax.specs.Trees.{Outlined, outline_then}
-use Rattle.plc_syntax.proofs.Combinators.{from_kinds}
+use Rattle.plc_syntax.proofs.Pieces.{from_kinds}
 use Rattle.plc_syntax.specs.Marks.{tokens_use_marks, value_uses_marks, set_uses_marks}
 use Rattle.plc_syntax.specs.Marks.{initial_uses_marks, init_uses_marks, test_uses_marks, condition_tree_uses_marks}
 use Rattle.plc_syntax.specs.Marks.{primitive_uses_marks, statement_tree_uses_marks, block_uses_marks}
@@ -41,7 +43,8 @@ use Rattle.plc_syntax.specs.Marks.{TreesSpellTheirMarks}
 
 -- the tokens of a tree use none
 abbrev Plain : {X : Type 0} → (X → Pieces → Pieces) → Type 0
-Plain {X} x_then = (x : X) (rest : Pieces) → tokens_use_marks (kinds_of (x_then x rest)) ≡ tokens_use_marks (kinds_of rest)
+Plain {X} x_then = (x : X) (rest : Pieces) → tokens_use_marks (kinds_of (x_then x rest)) ≡ tokens_use_marks
+    (kinds_of rest)
 
 each_plain : {X : Type 0} (x_then : X → Pieces → Pieces) → Plain x_then → Plain (each_then x_then)
 each_plain x_then one [] r = refl
@@ -265,8 +268,10 @@ marks_spelled f =
     ∙ (each_plain function_then function_plain f.functions _
     ∙ (maybe_plain watch_then watch_plain f.watched _
     ∙ (each_plain ghost_then ghost_plain f.ghosts _
-    ∙ (joined (init_uses_marks f.starts || list_any (λ o. op_uses_marks o.value) f.ops) (outlined_uses_marks f.outlined) _ _ _
+    ∙ (joined (init_uses_marks f.starts || list_any (λ o. op_uses_marks o.value) f.ops)
+    (outlined_uses_marks f.outlined) _ _ _
     (joined (init_uses_marks f.starts) (list_any (λ o. op_uses_marks o.value) f.ops) _ _ _ (init_spells f.starts _)
-    (each_spells (placed_then op_then) (λ o. op_uses_marks o.value) (placed_spells op_then op_uses_marks op_spells) f.ops _))
+    (each_spells (placed_then op_then) (λ o. op_uses_marks o.value)
+    (placed_spells op_then op_uses_marks op_spells) f.ops _))
     (outlined_spells f.outlined [])
     ∙ ends (file_tree_uses_marks f))))))

@@ -1,5 +1,5 @@
 -- Trees with 0 at each place. Two trees that are one so are one but for their places.
-use Rattle.std.specs.Prelude.{ℕ, Bool, Option, Some, None, List, [], ◌∷◌, map}
+use Rattle.std.specs.Prelude.{Option, Some, None, List, map}
 use Rattle.plc_syntax.specs.Trees.{Text, Placed, FieldTree, FunctionTree, WatchTree, GhostKindTree}
 use Rattle.plc_syntax.specs.Trees.{GhostTree, PlaceTree, AtomTree, ValueTree, SetTree, RefreshTree, GhostValueTree}
 use Rattle.plc_syntax.specs.Trees.{GhostSetTree, InitialTree, TestTree, ConditionTree, PrimitiveTree, ArgumentTree}

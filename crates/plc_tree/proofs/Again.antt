@@ -1,20 +1,24 @@
--- The readers of forms that hold lists or blocks read the tokens of every tree, whatever stands after them, given fuel: a
--- row for each constructor. Read is the tree but for its places, and the tree itself where each of its places is that of
--- its token. Only what may be left out asks that what follows is no beginning of it.
+-- The readers of forms that hold lists or blocks read the tokens of every tree, whatever stands after them, given fuel:
+-- a row for each constructor. Read is the tree but for its places, and the tree itself where each place in it is that
+-- of its token. Only what may be left out asks that what follows is no beginning of it.
 use Rattle.std.proofs.Common.{◌≡◌, ◌∙◌, ◌+◌, ℕ, false, Option, Some, None, List, [], ◌∷◌, map, Ok, refl, sym, ap, subst}
 use Rattle.plc_lex.specs.declared.token.TokenKind.TheVariants.{Word}
 use Rattle.plc_lex.specs.declared.token.Keyword.TheVariants as words
 use Rattle.plc_lex.specs.declared.token.Symbol.TheVariants.{OpenBrace, CloseBrace, CloseParen, Semicolon, Colon}
 use Rattle.plc_syntax.specs.Trees as trees
-use Rattle.plc_syntax.specs.Trees.{Text, Placed, Pieces, word, symbol, name, from_place, placed_then, kinds_of, AreInPlace}
+use Rattle.plc_syntax.specs.Trees.{Text, Placed, Pieces, word, symbol, name, from_place, placed_then, kinds_of}
+use Rattle.plc_syntax.specs.Trees.{AreInPlace}
 use Rattle.plc_syntax.specs.Trees.{each_then, maybe_then}
 use Rattle.plc_syntax.specs.Syntax.{Spelling}
-use Rattle.plc_syntax.proofs.Combinators.{Tokens, Fuelled, from_kinds, begun_there, some_begun}
+use Rattle.plc_syntax.proofs.Pieces.{Tokens, from_kinds, begun_there, some_begun}
+use Rattle.plc_syntax.proofs.Combinators.{Fuelled}
 use Rattle.plc_syntax.proofs.FormLaws.{some_literal}
 use Rattle.plc_syntax.proofs.Unplaced as bare
 use Rattle.plc_syntax.proofs.Unplaced.{unplaced, unplaced_by, unplaced_maybe}
-use Rattle.plc_syntax.specs.Forms.{at_place, placed_of, first_is, comma_name_of, primitive_line_of, initial_of, field_of}
-use Rattle.plc_syntax.specs.Forms.{shared_of, function_of, watch_next, argument_of, during_of, literal_of, or_literal_of, depth_next}
+use Rattle.plc_syntax.specs.Forms.{at_place, placed_of, first_is, comma_name_of, primitive_line_of, initial_of}
+use Rattle.plc_syntax.specs.Forms.{field_of}
+use Rattle.plc_syntax.specs.Forms.{shared_of, function_of, watch_next, argument_of, during_of, literal_of}
+use Rattle.plc_syntax.specs.Forms.{or_literal_of, depth_next}
 use Rattle.plc_syntax.proofs.Again.{Gets, done, then, from_given, one_more, gets_by, where_true, where_false, Leaves}
 use Rattle.plc_syntax.proofs.Again.{left_out, there, both, three, list_gets, placed_gets, NoDot, condition_gets}
 use Rattle.plc_syntax.proofs.Again.{primitive_gets, line_gets, initial_gets, literal_gets, bound_of_literal, bound_gets}
@@ -293,7 +297,8 @@ or_is_no_dot (l ∷ ls) r = λ k at. refl
 or_literal_gets : (l : Placed trees.LiteralTree) (at : ℕ) (r : Pieces) → NoDot r
     → Gets (unplaced_by bare.unplaced_literal) (AreInPlace at (trees.or_literal_then l r))
     (λ m. or_literal_of at (kinds_of (trees.or_literal_then l r))) l r
-or_literal_gets l at r h = from_given (λ p. p.1) (placed_gets trees.literal_then (λ m at ts. literal_of at ts) l (at + 1) r
+or_literal_gets l at r h = from_given (λ p. p.1)
+    (placed_gets trees.literal_then (λ m at ts. literal_of at ts) l (at + 1) r
     (some_literal l.value r) (literal_gets l.value (at + 1) r h))
 
 or_literals_get : (ls : List (Placed trees.LiteralTree)) (at : ℕ) (r : Pieces) → let q = symbol Semicolon ∷ r in
@@ -359,7 +364,8 @@ outline_gets (trees.Outlined d is) at r =
 
 -- ---- declarations
 
-ghost_gets : (g : trees.GhostTree) (at : ℕ) (r : Pieces) → Gets bare.unplaced_ghost (AreInPlace at (trees.ghost_then g r))
+ghost_gets : (g : trees.GhostTree) (at : ℕ) (r : Pieces) → Gets bare.unplaced_ghost
+    (AreInPlace at (trees.ghost_then g r))
     (λ m. forms.ghost_of m at (kinds_of (trees.ghost_then g r))) g r
 ghost_gets (trees.Auxiliary k (trees.OneOf v vs)) at r =
     let end = symbol Semicolon ∷ r in
@@ -479,7 +485,8 @@ outlined_gets (Some (trees.Outlined d is)) at = then _ (λ p. p) (outline_gets (
 
 ops_get : (os : List (Placed trees.OpTree)) (o : Option trees.OutlineTree) (at : ℕ)
     → let q = each_then (placed_then trees.op_then) os (outline_part o) in
-    Gets (map (unplaced_by bare.unplaced_op)) (AreInPlace at q) (λ m. forms.ops_of m at (kinds_of q)) os (outline_part o)
+    Gets (map (unplaced_by bare.unplaced_op)) (AreInPlace at q) (λ m. forms.ops_of m at (kinds_of q)) os
+    (outline_part o)
 ops_get os o at =
     let op = trees.op_then in
     let r = outline_part o in

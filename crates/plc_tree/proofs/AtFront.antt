@@ -7,7 +7,8 @@ use Rattle.plc_syntax.specs.declared.fault.Fault.{Fault}
 use Rattle.plc_syntax.specs.declared.fault.Fault.TheVariants as faults
 use Rattle.plc_syntax.specs.declared.rest.Rest.{Rest}
 use Rattle.plc_syntax.specs.Answers.{Gives}
-use Rattle.plc_syntax.proofs.Combinators.{Tokens, same, SameHead, Stuck}
+use Rattle.plc_syntax.proofs.Pieces.{Tokens}
+use Rattle.plc_syntax.proofs.Combinators.{same, SameHead, Stuck}
 use Rattle.plc_syntax.proofs.Unplaced.{unplaced_outline}
 use Rattle.plc_tree.specs.Forms.{outline_of}
 use Rattle.plc_tree.specs.Whole.{OutlineStops}

@@ -14,8 +14,8 @@ use Rattle.plc_syntax.specs.Answers.{FailsAs}
 use Rattle.plc_syntax.specs.Forms.{Read}
 use Rattle.plc_syntax.proofs.Again.{Gets}
 use Rattle.plc_syntax.proofs.Unplaced.{unplaced_file}
-use Rattle.plc_syntax.proofs.Combinators.{Tokens, Fuelled, same, SameHead, Whole, Stuck, Is, Law, kinds_before}
-use Rattle.plc_syntax.proofs.Combinators.{count_before, read_is_of}
+use Rattle.plc_syntax.proofs.Pieces.{Tokens, kinds_before, count_before}
+use Rattle.plc_syntax.proofs.Combinators.{Fuelled, same, SameHead, Whole, Stuck, Is, Law, read_is_of}
 use Rattle.plc_tree.specs.Answers.{StopsThere}
 use Rattle.plc_tree.specs.Forms.{file_of}
 use Rattle.plc_tree.proofs.Again.{file_gets}
@@ -134,7 +134,8 @@ module _ {X : Type 0} (s : Spelling X) (f : Fuelled X) (law : (n : ℕ) → Law 
         stop : StopAt s ts (length h.passed)
         stop = record {
           within = let whole = ap length h.split in omega (arith, count_before h.passed (t ∷ r));
-          goes_on = (x, [], tt, ap kinds_of (h.spelled []) ∙ kinds_before h.passed [] ∙ ap (λ us. us ++ []) (sym front));
+          goes_on = (x, [], tt, ap kinds_of (h.spelled []) ∙ kinds_before h.passed [] ∙ ap (λ us. us ++ [])
+              (sym front));
           stops = λ l g.
               let one_more = ap (λ (k : ℕ). take (k + 1) ts) at_end
               ∙ ap (take (length (kinds_of h.passed) + 1)) h.split in

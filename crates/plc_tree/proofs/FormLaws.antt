@@ -12,11 +12,12 @@ use Rattle.plc_syntax.specs.Trees as trees
 use Rattle.plc_syntax.specs.Trees.{Text, Placed, Pieces, word, word_at, symbol, name, placed_then, kinds_of, each_then}
 use Rattle.plc_syntax.specs.Trees.{maybe_then}
 use Rattle.plc_syntax.specs.Syntax.{Spelling}
-use Rattle.plc_syntax.proofs.Combinators.{Tokens, Fuelled, same, Law, Early, Choice, takes, takes_at, leaves, last, fault}
+use Rattle.plc_syntax.proofs.Pieces.{Tokens, begun_there, some_begun}
+use Rattle.plc_syntax.proofs.Combinators.{Fuelled, same, Law, Early, Choice, takes, takes_at, leaves, last, fault}
 use Rattle.plc_syntax.proofs.Combinators.{early_fault, led_law, early_led, then_form, then_whole, within, any_fuel}
 use Rattle.plc_syntax.proofs.Combinators.{then_symbol, then_word, ended_by_law, a_name, a_name_fits, name_law}
-use Rattle.plc_syntax.proofs.Combinators.{name_and_law, placed_law, early_placed, begun_there, some_begun, listed}
-use Rattle.plc_syntax.proofs.Combinators.{list_law}
+use Rattle.plc_syntax.proofs.Combinators.{name_and_law, placed_law, early_placed}
+use Rattle.plc_syntax.proofs.Lists.{listed, list_law}
 use Rattle.plc_syntax.specs.Forms.{at_place, placed_of, first_is}
 use Rattle.plc_syntax.proofs.FormLaws.{condition_law, named_tail_law, primitive_line_law, initial_law, argument_law}
 use Rattle.plc_syntax.proofs.FormLaws.{during_law, comma_name_law, field_law, shared_law, function_law, watch_law}
@@ -193,7 +194,8 @@ module _ {n : ℕ} (b : Blocks n) where
   unfolding forms.statement_of
   statement_law = early_led statement_choice (any_fuel step_law n)
 
-  or_block_choice : (at : ℕ) (t : TokenKind) → Choice n or_block_then same (λ m. forms.or_block_next (forms.block_of m)) at t
+  or_block_choice : (at : ℕ) (t : TokenKind) → Choice n or_block_then same
+      (λ m. forms.or_block_next (forms.block_of m)) at t
   or_block_choice at (Word Or) = takes _ (λ m. refl) (within (λ q. word Or ∷ q) braced_block_law)
   or_block_choice at _ = leaves (λ m. refl)
 
@@ -252,7 +254,8 @@ functions_law = list_law forms.begins_function function_begun (any_fuel function
 values_law : (n : ℕ) → Law n trees.ghost_kind_then (λ q. symbol OpenBrace ∷ q) (λ m at ts. forms.values_of m at ts)
 values_law n = then_form name_law (λ v. then_form (closed_law (comma_names_law n)) (λ vs. last (λ q. refl)))
 
-ghost_kind_choice : {n : ℕ} (at : ℕ) (t : TokenKind) → Choice n trees.ghost_kind_then same (λ m. forms.ghost_kind_next m) at t
+ghost_kind_choice : {n : ℕ} (at : ℕ) (t : TokenKind) → Choice n trees.ghost_kind_then same
+    (λ m. forms.ghost_kind_next m) at t
 ghost_kind_choice at (Symbol OpenBrace) = takes _ (λ m. refl) (values_law _)
 ghost_kind_choice at (Word Thread) = takes _ (λ m. refl) (last (λ q. refl))
 ghost_kind_choice at _ = leaves (λ m. refl)

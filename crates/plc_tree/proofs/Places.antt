@@ -1,6 +1,7 @@
 -- Of the answers one holds, at one place: what begins a tree's tokens begins them from any of its prefixes on, so that
 -- two faults can't be at two places. For any reader with the law that reads every tree's tokens again.
-use Rattle.std.proofs.Common.{◌≡◌, ◌⊎◌, ◌∙◌, ◌+◌, ◌<◌, ◌≤◌, ℕ, [], ◌∷◌, ◌++◌, length, take, drop, map, Ok, Err, refl, sym}
+use Rattle.std.proofs.Common.{◌≡◌, ◌⊎◌, ◌∙◌, ◌+◌, ◌<◌, ◌≤◌, ℕ, [], ◌∷◌, ◌++◌, length, take, drop, map, Ok, Err, refl}
+use Rattle.std.proofs.Common.{sym}
 use Rattle.std.proofs.Common.{ap, subst, arith, inl, inr}
 use Rattle.std.proofs.lemmas.Bool.{cases_lt, cases_order}
 use Rattle.std.proofs.lemmas.List.{append_assoc, append-nil, take-append-drop, take-take}
@@ -15,8 +16,8 @@ use Rattle.plc_syntax.specs.Trees.{outline_then}
 use Rattle.plc_syntax.specs.Forms.{Read}
 use Rattle.plc_syntax.proofs.Again.{Gets, both}
 use Rattle.plc_syntax.proofs.Unplaced.{unplaced_file, unplaced_outline}
-use Rattle.plc_syntax.proofs.Combinators.{Tokens, Fuelled, same, SameHead, Whole, Stuck, Is, Law, kinds_before}
-use Rattle.plc_syntax.proofs.Combinators.{kinds_plain, read_is_of}
+use Rattle.plc_syntax.proofs.Pieces.{Tokens, kinds_before, kinds_plain}
+use Rattle.plc_syntax.proofs.Combinators.{Fuelled, same, SameHead, Whole, Stuck, Is, Law, read_is_of}
 use Rattle.plc_tree.specs.Forms.{file_of, outline_of}
 use Rattle.plc_tree.proofs.Again.{file_gets, outline_gets}
 use Rattle.plc_tree.proofs.Exact.{fuel, no_other, not_none}

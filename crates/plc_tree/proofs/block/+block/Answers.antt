@@ -34,7 +34,8 @@ statements_at-loop-i-preserved t c =
     let at = c.in_ok-value.after.at in
     let after = kinds c.in_ok-value.after.tokens.now in
     ap (λ ss. statements_before ss (statements_of (c.args.most - (l.i + 1)) at after)) c.in_ok-push.ensures.items
-    ∙ ap (λ (m : ℕ). statements_before (l.stmts.items ++ record { at = l.rest.at; value = c.in_ok-value.value } ∷ []) (statements_of m at after)) fuel
+    ∙ ap (λ (m : ℕ). statements_before (l.stmts.items ++ record { at = l.rest.at; value = c.in_ok-value.value } ∷ [])
+    (statements_of m at after)) fuel
     ∙ sym (statements_turn (c.args.most - l.i) (c.args.most - 1 - l.i) l.rest.at at (kinds l.rest.tokens.now) after
     l.stmts.items (record { at = l.rest.at; value = c.in_ok-value.value }) more
     (sym c.begins_statement.ensures ∙ c.if-not-begins_statement.false) refl c.in_ok-value.ensures)
