@@ -15,6 +15,7 @@ use Rattle.plc_tree.specs.Whole.{OutlineStops}
 use Rattle.plc_tree.proofs.Again.{outline_gets}
 use Rattle.plc_tree.proofs.Exact.{fuel, answer_is, whole_answer, left_count, stuck_answer}
 use Rattle.plc_tree.proofs.FormLaws.{outline_law}
+use Rattle.plc_tree.proofs.Nested.{kinds_length}
 
 head_same : (ts : Tokens) → SameHead ts ts
 head_same [] = refl
@@ -48,9 +49,12 @@ module _ {A : Type 0} (view : A → OutlineTree) (start : ℕ) (ts : Tokens) (n 
   outline_there (Err e) h = tt
 
   pub outline_end : (answer : Result (A × Rest) Fault) → Gives view answer (outline_of n start ts)
-      → IfOk answer (λ r. r.1.at + length (kinds r.1.tokens.now) ≡ start + length ts)
-  outline_end (Ok r) h = left_count outline_then outline_of outline_law unplaced_outline
-      (λ x at. outline_gets x at []) start ts n (view r.0) r.1.at (kinds r.1.tokens.now) l h
+      → IfOk answer (λ r. r.1.at + length r.1.tokens.now ≡ start + length ts)
+  outline_end (Ok r) h =
+      let count = left_count outline_then outline_of outline_law unplaced_outline (λ x at. outline_gets x at []) start ts
+      n (view r.0) r.1.at (kinds r.1.tokens.now) l h in
+      let left = kinds_length r.1.tokens.now in
+      omega arith
   outline_end (Err e) h = tt
 
   pub outline_stops : (answer : Result (A × Rest) Fault) → Gives view answer (outline_of n start ts)
