@@ -1,7 +1,7 @@
--- What a reader reads are the tokens of a tree in which each place is that of its token, or the beginning of a tree's up
--- to the first token that doesn't fit; and to what it read neither what comes after that token makes a difference nor
--- more fuel. Readers that are put together of such readers are such readers: the law of each is found by its shape.
-use Rattle.std.proofs.Common.{◌≡◌, ◌∙◌, ◌+◌, ◌<◌, ◌≤◌, ℕ, zero, suc, Bool, true, false, cond, Some, None, List, [], ◌∷◌}
+-- What a reader reads are the tokens of a tree in which each place is that of its token, or the beginning of a tree's
+-- up to the first token that doesn't fit; and to what it read neither what comes after that token makes a difference
+-- nor more fuel. Readers that are put together of such readers are such readers: the law of each is found by its shape.
+use Rattle.std.proofs.Common.{◌≡◌, ◌∙◌, ◌+◌, ◌<◌, ◌≤◌, ℕ, Bool, true, false, cond, Some, None, List, [], ◌∷◌}
 use Rattle.std.proofs.Common.{◌++◌, length, map, Ok, Err, refl, sym, ap, subst, inl, inr, arith, rules, lit≤}
 use Rattle.std.proofs.lemmas.Bool.{cases_Bool}
 use Rattle.std.proofs.lemmas.List.{append_assoc, length-append}
@@ -16,14 +16,14 @@ use Rattle.plc_lex.specs.declared.token.Symbol.{Symbol as Punctuation}
 use Rattle.plc_lex.specs.Characters.{keyword_of, keywords}
 use Rattle.plc_lex.specs.Spelling.{IsKind, IsName}
 use Rattle.plc_syntax.specs.Trees.{Text, Placed, Piece, Pieces, plain, token_at, word, symbol, name, numeral}
-use Rattle.plc_syntax.specs.Trees.{from_place, placed_then, kinds_of, AreInPlace, each_then}
+use Rattle.plc_syntax.specs.Trees.{from_place, placed_then, kinds_of, AreInPlace}
 use Rattle.plc_syntax.specs.Syntax.{Spelling, AreOf}
-use Rattle.plc_syntax.specs.Forms.{Read, Reader, Pass, ◌>>=◌, ◌>>◌, Next, chosen, led, at_place, placed_of, first_is}
-use Rattle.plc_syntax.specs.Forms.{list_of, word_of, symbol_of, ended_by, name_next, name_of, name_and, number_next}
+use Rattle.plc_syntax.specs.Forms.{Read, Reader, Pass, ◌>>=◌, ◌>>◌, Next, chosen, led, at_place, placed_of}
+use Rattle.plc_syntax.specs.Forms.{word_of, symbol_of, ended_by, name_next, name_of, name_and, number_next}
 use Rattle.plc_syntax.specs.Forms.{number_of}
-
-abbrev pub Tokens : Type 0
-Tokens = List TokenKind
+use Rattle.plc_syntax.proofs.Pieces.{Tokens, kinds_append, kinds_before, kinds_plain, count_before, in_place_append}
+use Rattle.plc_syntax.proofs.Pieces.{plain_in_place, from_kinds, from_length, from_in_place, from_before, rest_from}
+use Rattle.plc_syntax.proofs.Pieces.{rest_kinds, rest_before}
 
 -- a reader with fuel
 abbrev pub Fuelled : Type 0 → Type 0
@@ -37,39 +37,9 @@ abbrev pub SameHead : Tokens → Tokens → Type 0
 SameHead [] us = us ≡ []
 SameHead (t ∷ ts) us = (vs : Tokens) × (us ≡ t ∷ vs)
 
-same_after : (p r q : Tokens) → SameHead r q → SameHead (p ++ r) (p ++ q)
+pub same_after : (p r q : Tokens) → SameHead r q → SameHead (p ++ r) (p ++ q)
 same_after [] r q h = h
 same_after (t ∷ p) r q h = (p ++ q, refl)
-
--- ---- tokens of trees
-
--- one list of them after another
-pub kinds_append : (p q : Pieces) (r : Tokens) → kinds_of (p ++ q) ++ r ≡ kinds_of p ++ (kinds_of q ++ r)
-kinds_append [] q r = refl
-kinds_append (t ∷ p) q r = ap (λ us. t.kind ∷ us) (kinds_append p q r)
-
-pub kinds_before : (p q : Pieces) → kinds_of (p ++ q) ≡ kinds_of p ++ kinds_of q
-kinds_before [] q = refl
-kinds_before (t ∷ p) q = ap (λ us. t.kind ∷ us) (kinds_before p q)
-
-pub kinds_plain : (ts : Tokens) → kinds_of (map plain ts) ≡ ts
-kinds_plain [] = refl
-kinds_plain (t ∷ ts) = ap (λ us. t ∷ us) (kinds_plain ts)
-
--- how many tokens there are with those after them
-pub count_before : (p : Pieces) (r : Tokens) → length (kinds_of p ++ r) ≡ length p + length r
-count_before [] r = refl
-count_before (t ∷ p) r = let more = count_before p r in omega arith
-
-in_place_append : (p q : Pieces) (at : ℕ) → AreInPlace at p → AreInPlace (at + length p) q → AreInPlace at (p ++ q)
-in_place_append [] q at h k = let same : at + 0 ≡ at = omega arith in subst (λ n. AreInPlace n q) same k
-in_place_append (t ∷ p) q at h k =
-    let same : at + length (t ∷ p) ≡ at + 1 + length p = omega arith in
-    (h.0, in_place_append p q (at + 1) h.1 (subst (λ n. AreInPlace n q) same k))
-
-plain_in_place : (ts : Tokens) (at : ℕ) → AreInPlace at (map plain ts)
-plain_in_place [] at = tt
-plain_in_place (t ∷ ts) at = (tt, plain_in_place ts (at + 1))
 
 -- a tree was read: after what was passed before, its tokens are those that were passed now
 pub record Whole {X : Type 0} (s : Spelling X) (pre : Pieces → Pieces) (f : Fuelled X) (n at : ℕ) (ts : Tokens) (x : X)
@@ -154,7 +124,8 @@ module _ {X : Type 0} (n : ℕ) (s : Spelling X) (pre : Pieces → Pieces) where
   }
 
   -- the first token is passed
-  step : (f g : Fuelled X) (at : ℕ) (t : Piece) (ts : Tokens) (o : Read X) → AllByRecursion (λ place. place ≡ at) t.places
+  step : (f g : Fuelled X) (at : ℕ) (t : Piece) (ts : Tokens) (o : Read X) → AllByRecursion
+      (λ place. place ≡ at) t.places
       → ((m : ℕ) (q : Tokens) → n ≤ m → f m at (t.kind ∷ q) ≡ g m (at + 1) q)
       → Is s (λ q. pre (t ∷ q)) g n (at + 1) ts o → Is s pre f n at (t.kind ∷ ts) o
   step f g at t ts (Ok y) here agree w = let h = w.read in record {
@@ -193,7 +164,8 @@ module _ {X : Type 0} (n : ℕ) (s : Spelling X) (pre : Pieces → Pieces) where
       in_place = h.in_place;
       spelled = h.spelled;
       alike = λ m q l e. agree m (kinds_of h.passed ++ q) l
-          (subst (λ us. SameHead us (kinds_of h.passed ++ q)) (sym h.split) (same_after (kinds_of h.passed) y.2 q e)) ∙ h.alike m q l e;
+          (subst (λ us. SameHead us (kinds_of h.passed ++ q)) (sym h.split) (same_after (kinds_of h.passed) y.2 q e))
+          ∙ h.alike m q l e;
     };
   }
   instead f g at ts (Err at') agree w = let h = w.read in record {
@@ -207,7 +179,8 @@ module _ {X : Type 0} (n : ℕ) (s : Spelling X) (pre : Pieces → Pieces) where
       fine = h.fine;
       goes_on = h.goes_on;
       alike = λ m q l e. agree m (kinds_of h.passed ++ q) l
-          (subst (λ us. SameHead us (kinds_of h.passed ++ q)) (sym h.split) (same_after (kinds_of h.passed) h.left q e)) ∙ h.alike m q l e;
+          (subst (λ us. SameHead us (kinds_of h.passed ++ q)) (sym h.split)
+          (same_after (kinds_of h.passed) h.left q e)) ∙ h.alike m q l e;
     };
   }
 
@@ -225,7 +198,7 @@ module _ {X : Type 0} (n : ℕ) (s : Spelling X) (pre : Pieces → Pieces) where
     goes_on = λ q. h.goes_on q ∙ ap (λ p. pre (p ++ (h.rest ++ q))) (nothing h.passed h.left h.split);
   }
 
-  sample : (f : Fuelled X) → 0 < n → Law n s pre f → Sample s pre
+  pub sample : (f : Fuelled X) → 0 < n → Law n s pre f → Sample s pre
   sample f l law = sample_of f 0 (f n 0 []) (law 0 [] l)
 
 pub fault : {X : Type 0} {n : ℕ} {s : Spelling X} {pre : Pieces → Pieces} (x : X) (rest : Pieces)
@@ -235,7 +208,8 @@ fault {n = n} {s = s} {pre = pre} x rest fine goes at ts l =
     (λ m q k e. refl)
 
 pub early_fault : {X : Type 0} {n : ℕ} {s : Spelling X} {pre : Pieces → Pieces} (x : X) (rest : Pieces)
-    → AllByRecursion IsKind (kinds_of rest) → ((q : Pieces) → s x q ≡ pre (rest ++ q)) → Early n s pre (λ m at ts. Err at)
+    → AllByRecursion IsKind (kinds_of rest) → ((q : Pieces) → s x q ≡ pre (rest ++ q)) → Early n s pre
+    (λ m at ts. Err at)
 early_fault {n = n} {s = s} {pre = pre} x rest fine goes at t ts l =
     refused n s pre (λ m at ts. Err at) (record { tree = x; rest = rest; fine = fine; goes_on = goes }) at (t ∷ ts)
     (λ m q k e. refl)
@@ -305,7 +279,8 @@ module _ {A X : Type 0} (n : ℕ) (sA : Spelling A) (preA : Pieces → Pieces) (
       passed = h.passed ++ k.passed;
       split = h.split ∙ ap (λ us. kinds_of h.passed ++ us) k.split ∙ sym (kinds_append h.passed k.passed y.2);
       place = let p = h.place in let q = k.place in omega (arith, length-append h.passed k.passed);
-      in_place = in_place_append h.passed k.passed at h.in_place (subst (λ m. AreInPlace m k.passed) h.place k.in_place);
+      in_place = in_place_append h.passed k.passed at h.in_place
+          (subst (λ m. AreInPlace m k.passed) h.place k.in_place);
       spelled = λ q. k.spelled q ∙ ap c (h.spelled (k.passed ++ q))
           ∙ ap (λ us. c (preA us)) (sym (append_assoc h.passed k.passed q));
       alike = λ m q l e.
@@ -456,7 +431,8 @@ module _ {X : Type 0} {n : ℕ} {s : Spelling X} {pre : Pieces → Pieces} {g : 
       → Is s pre (λ m at ts. pass at ts >> λ at ts. g m at ts) n at ts (Err at)
   other_token at ts l alike =
       let e = sample n s (λ q. pre (plain k ∷ q)) g l law in
-      refused n s pre _ (record { tree = e.tree; rest = plain k ∷ e.rest; fine = (fine, e.fine); goes_on = e.goes_on }) at ts
+      let rest = plain k ∷ e.rest in
+      refused n s pre _ (record { tree = e.tree; rest = rest; fine = (fine, e.fine); goes_on = e.goes_on }) at ts
       (λ m q l h. rw (alike q h) refl)
 
   then_token : Law n s pre (λ m at ts. pass at ts >> λ at ts. g m at ts)
@@ -533,58 +509,13 @@ number_law = led_law number_choice (fault (at_place 0 0) (numeral (at_place 0 0)
 
 -- ---- a form at its place
 
-module _ (at : ℕ) where
-  from_kinds : (p : Pieces) → kinds_of (from_place at p) ≡ kinds_of p
-  from_kinds [] = refl
-  from_kinds (t ∷ p) = refl
-
-  from_length : (p : Pieces) → length (from_place at p) ≡ length p
-  from_length [] = refl
-  from_length (t ∷ p) = refl
-
-  from_in_place : (p : Pieces) → AreInPlace at p → AreInPlace at (from_place at p)
-  from_in_place [] h = tt
-  from_in_place (t ∷ p) h = ((refl, h.0), h.1)
-
-  from_before : (p : Pieces) → (p ≡ [] → ⊥) → (q : Pieces) → from_place at (p ++ q) ≡ from_place at p ++ q
-  from_before [] some q = absurd (some refl)
-  from_before (t ∷ p) some q = refl
-
-  -- the place is that of the first token that was passed, or of the first after them
-  rest_from : Pieces → Pieces → Pieces
-  rest_from [] rest = from_place at rest
-  rest_from (t ∷ p) rest = rest
-
-  rest_kinds : (p rest : Pieces) → kinds_of (rest_from p rest) ≡ kinds_of rest
-  rest_kinds [] rest = from_kinds rest
-  rest_kinds (t ∷ p) rest = refl
-
-  rest_before : (p rest : Pieces) → (p ++ (rest ++ []) ≡ [] → ⊥) → (q : Pieces)
-      → from_place at (p ++ (rest ++ q)) ≡ from_place at p ++ (rest_from p rest ++ q)
-  rest_before [] [] some q = absurd (some refl)
-  rest_before [] (t ∷ rest) some q = refl
-  rest_before (t ∷ p) rest some q = refl
-
--- whatever begins a form begins it at its place
-pub begun_at : (begins : TokenKind → Bool) (at : ℕ) (p : Pieces)
-    → first_is begins (kinds_of (from_place at p)) ≡ first_is begins (kinds_of p)
-begun_at begins at [] = refl
-begun_at begins at (t ∷ p) = refl
-
--- what begins isn't nothing
-pub some_begun : {X : Type 0} {s : Spelling X} (begins : TokenKind → Bool)
-    → ((x : X) (q : Pieces) → first_is begins (kinds_of (s x q)) ≡ true) → (x : X) → s x [] ≡ [] → ⊥
-some_begun {s = s} begins begun x e =
-    let b = begun x [] in
-    let none : first_is begins (kinds_of []) ≡ true = ap (λ p. first_is begins (kinds_of p)) (sym e) ∙ b in
-    cc
-
-module _ {X : Type 0} {s : Spelling X} (some : (x : X) → s x [] ≡ [] → ⊥) (n : ℕ) (f : Fuelled X) where
+module _ {X : Type 0} {s : Spelling X} (some : (x : X) (q : Pieces) → s x q ≡ [] → ⊥) (n : ℕ) (f : Fuelled X) where
   placed_is : (at : ℕ) (ts : Tokens) (o : Read X) → Is s same f n at ts o
-      → Is (placed_then s) same (λ m at ts. placed_of (f m) at ts) n at ts (o >>= λ x end ts. Ok (at_place at x, end, ts))
+      → Is (placed_then s) same (λ m at ts. placed_of (f m) at ts) n at ts
+      (o >>= λ x end ts. Ok (at_place at x, end, ts))
   placed_is at ts (Ok y) w =
       let h = w.read in
-      let any : h.passed ≡ [] → ⊥ = λ e. some y.0 (h.spelled [] ∙ ap (λ p. p ++ []) e) in
+      let any : h.passed ≡ [] → ⊥ = λ e. some y.0 [] (h.spelled [] ∙ ap (λ p. p ++ []) e) in
       record {
         read = record {
           passed = from_place at h.passed;
@@ -598,7 +529,7 @@ module _ {X : Type 0} {s : Spelling X} (some : (x : X) → s x [] ≡ [] → ⊥
       }
   placed_is at ts (Err e) w =
       let h = w.read in
-      let any : h.passed ++ (h.rest ++ []) ≡ [] → ⊥ = λ e. some h.tree (h.goes_on [] ∙ e) in
+      let any : h.passed ++ (h.rest ++ []) ≡ [] → ⊥ = λ e. some h.tree [] (h.goes_on [] ∙ e) in
       record {
         read = record {
           passed = from_place at h.passed;
@@ -614,142 +545,22 @@ module _ {X : Type 0} {s : Spelling X} (some : (x : X) → s x [] ≡ [] → ⊥
         };
       }
 
-pub placed_law : {X : Type 0} {n : ℕ} {s : Spelling X} {f : Fuelled X} → ((x : X) → s x [] ≡ [] → ⊥)
+pub placed_law : {X : Type 0} {n : ℕ} {s : Spelling X} {f : Fuelled X} → ((x : X) (q : Pieces) → s x q ≡ [] → ⊥)
     → Law n s same (λ m at ts. f m at ts) → Law n (placed_then s) same (λ m at ts. placed_of (f m) at ts)
 placed_law {n = n} {f = f} some law at ts l = placed_is some n f at ts (f n at ts) (law at ts l)
 
-pub early_placed : {X : Type 0} {n : ℕ} {s : Spelling X} {f : Fuelled X} → ((x : X) → s x [] ≡ [] → ⊥)
+pub early_placed : {X : Type 0} {n : ℕ} {s : Spelling X} {f : Fuelled X} → ((x : X) (q : Pieces) → s x q ≡ [] → ⊥)
     → Early n s same (λ m at ts. f m at ts) → Early n (placed_then s) same (λ m at ts. placed_of (f m) at ts)
 early_placed {n = n} {f = f} some law at t ts l = placed_is some n f at (t ∷ ts) (f n at (t ∷ ts)) (law at t ts l)
 
 -- ---- what was read
 
 -- the tokens are the tree's that was read, and each place in it is that of its token
-pub read_is_of : {X : Type 0} {s : Spelling X} {f : Fuelled X} (n at : ℕ) (ts : Tokens) (x : X) (after : ℕ) (r : Tokens)
-    → Whole s same f n at ts x after r → AreOf s x at ts r
-read_is_of {s = s} n at ts x after r h = record {
+pub read_is_of : {X : Type 0} {s : Spelling X} {f : Fuelled X} (n at : ℕ) (ts : Tokens) (x : X) (end : ℕ) (r : Tokens)
+    → Whole s same f n at ts x end r → AreOf s x at ts r
+read_is_of {s = s} n at ts x end r h = record {
   tokens = h.split ∙ ap (λ us. kinds_of h.passed ++ us) (sym (kinds_plain r))
       ∙ sym (ap kinds_of (h.spelled (map plain r)) ∙ kinds_before h.passed (map plain r));
   places = subst (λ p. AreInPlace at p) (sym (h.spelled (map plain r)))
       (in_place_append h.passed (map plain r) at h.in_place (plain_in_place r (at + length h.passed)));
 }
-
--- ---- items while one begins
-
--- what takes a token leaves fewer
-shorter : (p : Pieces) (ts r : Tokens) → (p ≡ [] → ⊥) → ts ≡ kinds_of p ++ r → length r < length ts
-shorter [] ts r some e = absurd (some refl)
-shorter (t ∷ p) ts r some e = let whole = ap length e in omega (arith, count_before p r)
-
--- with one fuel less a reader does as another
-lifted : {X : Type 0} (n : ℕ) (s : Spelling X) (f g : Fuelled X) (at : ℕ) (ts : Tokens) (o : Read X)
-    → ((m : ℕ) (q : Tokens) → SameHead ts q → f (suc m) at q ≡ g m at q) → Is s same g n at ts o
-    → Is s same f (suc n) at ts o
-lifted {X = X} n s f g at ts (Ok y) agree w = let h = w.read in record {
-  read = record {
-    passed = h.passed;
-    split = h.split;
-    place = h.place;
-    in_place = h.in_place;
-    spelled = h.spelled;
-    alike = more;
-  };
-}
-  where
-    more : (m : ℕ) (q : Tokens) → suc n ≤ m → SameHead y.2 q → f m at (kinds_of w.read.passed ++ q) ≡ Ok (y.0, y.1, q)
-    more zero q l e = absurd (omega arith)
-    more (suc m) q l e =
-        let h = w.read in
-        agree m (kinds_of h.passed ++ q)
-        (subst (λ us. SameHead us (kinds_of h.passed ++ q)) (sym h.split) (same_after (kinds_of h.passed) y.2 q e))
-        ∙ h.alike m q (omega arith) e
-lifted {X = X} n s f g at ts (Err at') agree w = let h = w.read in record {
-  read = record {
-    passed = h.passed;
-    left = h.left;
-    split = h.split;
-    place = h.place;
-    tree = h.tree;
-    rest = h.rest;
-    fine = h.fine;
-    goes_on = h.goes_on;
-    alike = more;
-  };
-}
-  where
-    more : (m : ℕ) (q : Tokens) → suc n ≤ m → SameHead w.read.left q → f m at (kinds_of w.read.passed ++ q) ≡ Err at'
-    more zero q l e = absurd (omega arith)
-    more (suc m) q l e =
-        let h = w.read in
-        agree m (kinds_of h.passed ++ q)
-        (subst (λ us. SameHead us (kinds_of h.passed ++ q)) (sym h.split) (same_after (kinds_of h.passed) h.left q e))
-        ∙ h.alike m q (omega arith) e
-
--- X is an item's tree, Y that of a list: an item takes a token, and with one fuel less the others are read
-module _ {X Y : Type 0} (s : Spelling X) (cons : X → Y → Y) (nil : Y) (list : Spelling Y) (begins : TokenKind → Bool)
-    (item : Fuelled X) (items : Fuelled Y) (empty : (q : Pieces) → list nil q ≡ q)
-    (more : (x : X) (y : Y) (q : Pieces) → list (cons x y) q ≡ s x (list y q))
-    (begun : (x : X) (q : Pieces) → first_is begins (kinds_of (s x q)) ≡ true)
-    (next : (m at : ℕ) (ts : Tokens) → items (suc m) at ts ≡ cond (first_is begins ts)
-    (item m at ts >>= λ x at ts. items m at ts >>= λ y at ts. Ok (cons x y, at, ts)) (Ok (nil, at, ts))) where
-  abbrev others : X → Fuelled Y
-  others x m at ts = items m at ts >>= λ y at ts. Ok (cons x y, at, ts)
-
-  abbrev goes : Fuelled Y
-  goes m at ts = item m at ts >>= λ x at ts. others x m at ts
-
-  module _ (n : ℕ) (items_law : Law n list same items) where
-    others_law : (x : X) → Law n list (λ q. s x q) (others x)
-    others_law x = then_form items_law (λ y. last (more x y))
-
-    goes_by : (at : ℕ) (ts : Tokens) → 0 < n → length ts ≤ n → (o : Read X) → Is s same item n at ts o
-        → Is list same goes n at ts (o >>= λ x at ts. others x n at ts)
-    goes_by at ts l le (Ok x) w =
-        let h = w.read in
-        let some : h.passed ≡ [] → ⊥ = λ e. some_begun begins begun x.0 (h.spelled [] ∙ ap (λ p. p ++ []) e) in
-        let fewer = shorter h.passed ts x.2 some h.split in
-        joined n s same list same item others at ts x.0 x.1 x.2 h (others x.0 n x.1 x.2)
-        (others_law x.0 x.1 x.2 (omega arith))
-    goes_by at ts l le (Err e) w =
-        let h = w.read in
-        broken n s same list same item others at ts e h
-        (sample n list (λ q. s h.tree q) (others h.tree) l (others_law h.tree))
-
-    no_item : (at : ℕ) (ts : Tokens) → ((q : Tokens) → SameHead ts q → first_is begins q ≡ false)
-        → first_is begins ts ≡ false
-        → Is list same items (suc n) at ts (items (suc n) at ts)
-    no_item at ts alike none =
-        subst (λ o. Is list same items (suc n) at ts o)
-        (sym (next n at ts ∙ ap (λ b. cond b (goes n at ts) (Ok (nil, at, ts))) none))
-        (lifted n list items (λ m at ts. Ok (nil, at, ts)) at ts (Ok (nil, at, ts))
-        (λ m q h. next m at q ∙ ap (λ b. cond b (goes m at q) (Ok (nil, at, q))) (alike q h))
-        (record {
-          read = record { passed = []; split = refl; place = omega arith; in_place = tt; spelled = empty; alike = λ m q l e. refl };
-        }))
-
-    by_first : (at : ℕ) (t : TokenKind) (ts : Tokens) → length (t ∷ ts) ≤ n → (b : Bool) → begins t ≡ b
-        → Is s same item n at (t ∷ ts) (item n at (t ∷ ts))
-        → Is list same items (suc n) at (t ∷ ts) (items (suc n) at (t ∷ ts))
-    by_first at t ts l false e h =
-        no_item at (t ∷ ts) (λ q (vs, k). ap (first_is begins) k ∙ e) e
-    by_first at t ts l true e h =
-        subst (λ o. Is list same items (suc n) at (t ∷ ts) o)
-        (sym (next n at (t ∷ ts) ∙ ap (λ b. cond b (goes n at (t ∷ ts)) (Ok (nil, at, t ∷ ts))) e))
-        (lifted n list items goes at (t ∷ ts) (goes n at (t ∷ ts))
-        (λ m q (vs, k). next m at q
-        ∙ ap (λ b. cond b (goes m at q) (Ok (nil, at, q))) (ap (first_is begins) k ∙ e))
-        (goes_by at (t ∷ ts) (omega arith) l (item n at (t ∷ ts)) h))
-
-    pub listed : Early n s same item → Law (suc n) list same items
-    listed law at [] l = no_item at [] (λ q h. ap (first_is begins) h) refl
-    listed law at (t ∷ ts) l = by_first at t ts (omega arith) (begins t) refl (law at t ts (omega arith))
-
--- a list whose items are read one by one
-pub list_law : {X : Type 0} {s : Spelling X} {item : Fuelled X} (begins : TokenKind → Bool)
-    → ((x : X) (q : Pieces) → first_is begins (kinds_of (s x q)) ≡ true) → ((n : ℕ) → Early n s same item) → (n : ℕ)
-    → Law n (λ xs q. each_then s xs q) same (λ m at ts. list_of begins item m at ts)
-unfolding list_of
-list_law begins begun law zero = λ at ts l. absurd (omega arith)
-list_law {s = s} {item = item} begins begun law (suc n) =
-    listed s (λ x xs. x ∷ xs) [] (λ xs q. each_then s xs q) begins item (λ m at ts. list_of begins item m at ts)
-    (λ q. refl) (λ x y q. refl) begun (λ m at ts. refl) n (list_law begins begun law n) (law n)

@@ -33,7 +33,8 @@ AreWhole {X} x_then ts = (x : X) × (spelled x_then x [] ≡ ts)
 
 -- some tree's tokens begin with these and go on with tokens that bytes can spell
 abbrev pub Begin : {X : Type 0} → Spelling X → List TokenKind → Type 0
-Begin {X} x_then ts = (x : X) × (rest : List TokenKind) × AllByRecursion IsKind rest × (spelled x_then x [] ≡ ts ++ rest)
+Begin {X} x_then ts = (x : X) × (rest : List TokenKind) × AllByRecursion IsKind rest ×
+    (spelled x_then x [] ≡ ts ++ rest)
 
 -- a tree's tokens stand at the front of these, whatever stands after them
 abbrev pub HaveAtFront : {X : Type 0} → Spelling X → List TokenKind → Type 0

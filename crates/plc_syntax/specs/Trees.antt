@@ -243,7 +243,8 @@ initial_then (InitialSet s) rest = set_then s (symbol Semicolon ∷ rest)
 initial_then (InitialGhost g) rest = ghost_set_then g (symbol Semicolon ∷ rest)
 
 abbrev pub init_then : List (Placed InitialTree) → Pieces → Pieces
-init_then sets rest = word Init ∷ symbol OpenBrace ∷ each_then (placed_then initial_then) sets (symbol CloseBrace ∷ rest)
+init_then sets rest = word Init ∷ symbol OpenBrace ∷ each_then (placed_then initial_then) sets
+    (symbol CloseBrace ∷ rest)
 
 -- test := ( "marked" | "unmarked" ) NAME | NAME ( "==" | "!=" | "<" | ">=" ) ( NAME | NUMBER | "null" )
 pub data Comparison : Type 0 where

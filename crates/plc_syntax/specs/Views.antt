@@ -1,7 +1,8 @@
 -- The trees of the program's forms. Names borrow their bytes from the tokens, so a form stands for the tree with them.
-use Rattle.std.specs.Prelude.{ℕ, List, Option, Some, None}
+use Rattle.std.specs.Prelude.{ℕ, Option, Some, None}
 use Rattle.std.specs.Borrow.{Bor}
-use Rattle.plc_syntax.specs.Trees.{Text, Placed, FieldTree, PointerField, DataField, PlaceTree, PlaceOf, AtomTree, NullAtom}
+use Rattle.plc_syntax.specs.Trees.{Text, Placed, FieldTree, PointerField, DataField, PlaceTree, PlaceOf, AtomTree}
+use Rattle.plc_syntax.specs.Trees.{NullAtom}
 use Rattle.plc_syntax.specs.Trees.{NumberAtom, NameAtom, ValueTree, NullValue, NewValue, NumberValue, PlaceValue}
 use Rattle.plc_syntax.specs.Trees.{SetTree, SetName, SetField, RefreshTree, RefreshName, RefreshField, GhostValueTree}
 use Rattle.plc_syntax.specs.Trees.{NameGhost, MeGhost, NoneGhost, GhostSetTree, SetGhost, InitialTree, InitialSet}

@@ -84,7 +84,8 @@ fn cas_condition_at<'a>(rest: Rest<'a>) -> Read<'a, Condition<'a>>
 
 /// A condition, from after its name.
 fn named_condition_at<'a>(name: Name<'a>, rest: Rest<'a>) -> Read<'a, Condition<'a>>
-    ensures { Gives condition_tree result (named_condition_of (name_tree name.entry) rest.entry.at (kinds rest.entry.tokens.now)) }
+    ensures { Gives condition_tree result
+        (named_condition_of (name_tree name.entry) rest.entry.at (kinds rest.entry.tokens.now)) }
 {
     match at_front(rest) {
         (Front::Symbol(Symbol::Refresh), after) =>

@@ -99,7 +99,10 @@ pub fn at_front<'a>(rest: Rest<'a>) -> (Front<'a>, Rest<'a>)
             let value = name.as_slice();
             (Front::Name(Placed { at, value }), after)
         }
-        Some((TokenKind::Number(number), after)) => (Front::Number(Placed { at, value: *number }), after),
+        Some((TokenKind::Number(number), after)) => (
+            Front::Number(Placed { at, value: *number }),
+            after,
+        ),
         Some((TokenKind::Symbol(symbol), after)) => (Front::Symbol(*symbol), after),
         None => (Front::End, rest),
     }

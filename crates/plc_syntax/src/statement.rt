@@ -19,7 +19,8 @@ use plc_lex::{Keyword, Symbol};
 
 /// A place, from after its name.
 pub fn place_of_name_at<'a>(name: Name<'a>, rest: Rest<'a>) -> Read<'a, Place<'a>>
-    ensures { Gives place_tree result (place_of_name (name_tree name.entry) rest.entry.at (kinds rest.entry.tokens.now)) }
+    ensures { Gives place_tree result
+        (place_of_name (name_tree name.entry) rest.entry.at (kinds rest.entry.tokens.now)) }
 {
     match at_front(rest) {
         (Front::Symbol(Symbol::Dot), after) =>
@@ -46,7 +47,8 @@ pub fn value_at<'a>(rest: Rest<'a>) -> Read<'a, Value<'a>>
         (Front::Word(Keyword::Null), after) => Ok((Value::Null(rest.at), after)),
         (Front::Word(Keyword::New), after) => Ok((Value::New(rest.at), after)),
         (Front::Number(n), after) => Ok((Value::Number(n), after)),
-        (Front::Word(Keyword::Mark), after) => within!(Value::Mark(rest.at, name); name = name_at(after)),
+        (Front::Word(Keyword::Mark), after) =>
+            within!(Value::Mark(rest.at, name); name = name_at(after)),
         (Front::Word(Keyword::Unmark), after) =>
             within!(Value::Unmark(rest.at, name); name = name_at(after)),
         (Front::Name(name), after) =>
@@ -81,7 +83,8 @@ fn ghost_value_at<'a>(rest: Rest<'a>) -> Read<'a, GhostValue<'a>>
 
 /// What follows a name and a dot on the left.
 fn field_tail_at<'a>(name: Name<'a>, rest: Rest<'a>) -> Read<'a, Primitive<'a>>
-    ensures { Gives primitive_tree result (field_tail_of (name_tree name.entry) rest.entry.at (kinds rest.entry.tokens.now)) }
+    ensures { Gives primitive_tree result
+        (field_tail_of (name_tree name.entry) rest.entry.at (kinds rest.entry.tokens.now)) }
 {
     in_turn!(
         (field, rest) = name_at(rest);
@@ -97,7 +100,8 @@ fn field_tail_at<'a>(name: Name<'a>, rest: Rest<'a>) -> Read<'a, Primitive<'a>>
 
 /// What follows a name on the left.
 pub fn named_tail_at<'a>(name: Name<'a>, rest: Rest<'a>) -> Read<'a, Primitive<'a>>
-    ensures { Gives primitive_tree result (named_tail_of (name_tree name.entry) rest.entry.at (kinds rest.entry.tokens.now)) }
+    ensures { Gives primitive_tree result
+        (named_tail_of (name_tree name.entry) rest.entry.at (kinds rest.entry.tokens.now)) }
 {
     match at_front(rest) {
         (Front::Symbol(Symbol::Assign), after) =>

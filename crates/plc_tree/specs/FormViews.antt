@@ -1,7 +1,8 @@
 -- The trees of auxiliary fields, of the init block and of what an outline is made of. Names are those of the tokens, so
 -- a form stands for the tree with their bytes.
 use Rattle.std.specs.Prelude.{List, map, Option, Some, None}
-use Rattle.plc_syntax.specs.Trees.{Placed, GhostKindTree, OneOf, OfThreads, GhostTree, Auxiliary, ClauseTree, Claims, ItemTree}
+use Rattle.plc_syntax.specs.Trees.{Placed, GhostKindTree, OneOf, OfThreads, GhostTree, Auxiliary, ClauseTree, Claims}
+use Rattle.plc_syntax.specs.Trees.{ItemTree}
 use Rattle.plc_syntax.specs.Trees.{InvariantItem, OverItem, AtItem, OutlineTree, Outlined, InitialTree}
 use Rattle.plc_syntax.specs.declared.form.Placed.{Placed as PlacedForm}
 use Rattle.plc_syntax.specs.declared.form.Initial.{Initial}

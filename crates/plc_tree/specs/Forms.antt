@@ -10,7 +10,8 @@ use Rattle.plc_lex.specs.declared.token.Keyword.TheVariants.{Atomic, If, Else, L
 use Rattle.plc_lex.specs.declared.token.Keyword.TheVariants.{Label, Active, Assume, Outline, Inv, Over, At}
 use Rattle.plc_lex.specs.declared.token.Symbol.TheVariants.{OpenBrace, CloseBrace, OpenParen, CloseParen, Semicolon}
 use Rattle.plc_lex.specs.declared.token.Symbol.TheVariants.{Comma, Colon}
-use Rattle.plc_syntax.specs.Trees.{Text, Placed, FieldTree, FunctionTree, GhostKindTree, OneOf, OfThreads, GhostTree, Auxiliary}
+use Rattle.plc_syntax.specs.Trees.{Text, Placed, FieldTree, FunctionTree, GhostKindTree, OneOf, OfThreads, GhostTree}
+use Rattle.plc_syntax.specs.Trees.{Auxiliary}
 use Rattle.plc_syntax.specs.Trees.{InitialTree, PrimitiveTree, StatementTree, PrimitiveStatement, AtomicStatement}
 use Rattle.plc_syntax.specs.Trees.{CallStatement, IfStatement, ChooseStatement, LoopStatement, BreakStatement}
 use Rattle.plc_syntax.specs.Trees.{ReturnStatement, LabelStatement, BlockTree, NoStatement, Then, ElseTree, NoElse}

@@ -1,7 +1,8 @@
 -- A block as the constructors of its tree in postorder, from which the block is read back: how a proof tells blocks
 -- apart. Nothing else rests on it.
 use Rattle.std.proofs.Common.{◌≡◌, ℕ, ◌+◌, List, [], ◌∷◌, Option, refl, ap, ◌∙◌}
-use Rattle.plc_syntax.specs.Trees.{Text, Placed, PrimitiveTree, ArgumentTree, ConditionTree, StatementTree, PrimitiveStatement}
+use Rattle.plc_syntax.specs.Trees.{Text, Placed, PrimitiveTree, ArgumentTree, ConditionTree, StatementTree}
+use Rattle.plc_syntax.specs.Trees.{PrimitiveStatement}
 use Rattle.plc_syntax.specs.Trees.{AtomicStatement, CallStatement, IfStatement, ChooseStatement, LoopStatement}
 use Rattle.plc_syntax.specs.Trees.{BreakStatement, ReturnStatement, LabelStatement, BlockTree, NoStatement, Then}
 use Rattle.plc_syntax.specs.Trees.{ElseTree, NoElse, ElseBlock, OrTree, NoOr, OrBlock}

@@ -15,8 +15,8 @@ pub record IsReadWhere {A E : Type 0} (memory : E) (answer : Result A E) (fact :
   pub only : (x : A) → answer ≡ Ok x → fact
   pub always : fact → ((x : A) × (answer ≡ Ok x)) ⊎ (answer ≡ Err memory)
 
--- no outline stands at the front of tokens of which the first is at this place, and the fault is at the place with which
--- that is known, unless memory ran out
+-- no outline stands at the front of tokens of which the first is at this place, and the fault is at the place with
+-- which that is known, unless memory ran out
 abbrev pub OutlineStops : ℕ → List TokenKind → Fault → Type 0
 OutlineStops start ts (faults.Syntax at) = (place : ℕ) × OutlineFaultAt ts place × (at ≡ start + place)
 OutlineStops start ts faults.Memory = Unit {0}

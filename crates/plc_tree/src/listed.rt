@@ -1,6 +1,7 @@
 // What lists are made of: with which token an item begins, and its reader.
 ghost use Rattle.std.specs.Prelude.{◌≡◌};
-ghost use Rattle.plc_syntax.specs.Trees.{Text, Placed as PlacedTree, PrimitiveTree, InitialTree, FieldTree, FunctionTree, LiteralTree};
+ghost use Rattle.plc_syntax.specs.Trees.{Text, Placed as PlacedTree, PrimitiveTree, InitialTree, FieldTree};
+ghost use Rattle.plc_syntax.specs.Trees.{FunctionTree, LiteralTree};
 ghost use Rattle.plc_syntax.specs.Trees.{GhostTree, ItemTree, OpTree};
 ghost use Rattle.plc_syntax.specs.Views.{placed_as, name_tree, primitive_tree, initial_tree, field_tree, shared_name};
 ghost use Rattle.plc_syntax.specs.Views.{function_tree, literal_tree};
