@@ -36,7 +36,7 @@ record Between (s : Scope) : Type 0 where
 declared_between : (s : Scope) (name : Placed Text) (b : Binding) → Between s → Has Between (declared s name b)
 declared_between s name b h = new (place_of name.value s.names.names)
   where
-    new : (o : Option ℕ) → Has Between (if_new o name.at (with_name s name b))
+    new : (o : Option ℕ) → Has Between (if_new o name.at (with_name s name.value b))
     new None = record { locals = h.locals; labels = h.labels }
     new (Some i) = tt
 
@@ -123,7 +123,7 @@ FewLabels s = length s.labels ≤ most limits.Labels
 label_fits : (s : Scope) (n : Placed Text) → FewLabels s → Has (LabelRead FewLabels) (label_means s n)
 label_fits s n h = below (LabelRead FewLabels) (length s.labels) (most limits.Labels) _ _ h (λ less. next FewLabels (LabelRead FewLabels) (declared_label s n) _ (new (place_of n.value s.names.names) less) (λ t k. k))
   where
-    new : (o : Option ℕ) → length s.labels < most limits.Labels → Has FewLabels (if_new o n.at (with_name s n Taken) >>= λ t. Ok (with_label t (length s.names.names)))
+    new : (o : Option ℕ) → length s.labels < most limits.Labels → Has FewLabels (if_new o n.at (with_name s n.value Taken) >>= λ t. Ok (with_label t (length s.names.names)))
     new None less = omega (arith, length-append s.labels (length s.names.names ∷ []))
     new (Some i) less = tt
 

@@ -64,7 +64,7 @@ MaybeNumbered s r = Numbered (length s.labels) (length r.1.labels) (label_or_non
 label_numbered : (s : Scope) (n : Placed Text) → Has (OneNumbered s) (label_means s n)
 label_numbered s n = unless (OneNumbered s) (length s.labels == most limits.Labels) _ _ (λ few. new (place_of n.value s.names.names))
   where
-    new : (o : Option ℕ) → Has (OneNumbered s) ((if_new o n.at (with_name s n Taken) >>= λ t. Ok (with_label t (length s.names.names))) >>= λ t. Ok (length s.labels, t))
+    new : (o : Option ℕ) → Has (OneNumbered s) ((if_new o n.at (with_name s n.value Taken) >>= λ t. Ok (with_label t (length s.names.names))) >>= λ t. Ok (length s.labels, t))
     new None = record { end = omega (arith, length-append s.labels (length s.names.names ∷ [])); are = (refl, tt) }
     new (Some i) = tt
 

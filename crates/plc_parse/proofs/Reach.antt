@@ -95,7 +95,7 @@ first_reaches = record { bound = All-cons (BindingIn 0 0) (Function (record { 0 
 pub declared_reaches : (h : Shape) (s : Scope) (name : Placed Text) (b : Binding) → BindingIn h.shared h.fields b → Reaches h s → Has (Reaches h) (declared s name b)
 declared_reaches h s name b is r = new (place_of name.value s.names.names)
   where
-    new : (o : Option ℕ) → Has (Reaches h) (if_new o name.at (with_name s name b))
+    new : (o : Option ℕ) → Has (Reaches h) (if_new o name.at (with_name s name.value b))
     new None = record { bound = All-push (BindingIn h.shared h.fields) s.bindings b r.bound is; pointers = r.pointers; values = r.values }
     new (Some i) = tt
 

@@ -102,7 +102,7 @@ pub record Named (s : Scope) (b : Binding) (t : Scope) : Type 0 where
 pub named : (s : Scope) (name : Placed Text) (b : Binding) → Has (Named s b) (declared s name b)
 named s name b = new (place_of name.value s.names.names)
   where
-    new : (o : Option ℕ) → Has (Named s b) (if_new o name.at (with_name s name b))
+    new : (o : Option ℕ) → Has (Named s b) (if_new o name.at (with_name s name.value b))
     new None = record { keeps = record { locals = refl; labels = refl }; there = λ d is h. All-push (IsThere d) s.bindings b h is }
     new (Some i) = tt
 
