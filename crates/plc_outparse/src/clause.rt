@@ -69,12 +69,7 @@ fn bind_second(
 
 /// The quantified names of a clause, put where there is none yet.
 #[tactic(auto, unfolding(crate::specs::Meaning::bound_means))]
-fn bind_all(
-    scope: &Scope,
-    locals: &[Local],
-    bound: &mut Names,
-    form: BoundForm,
-) -> Meaning<()>
+fn bind_all(scope: &Scope, locals: &[Local], bound: &mut Names, form: BoundForm) -> Meaning<()>
     requires locals { length locals.now ≤ most_locals }
     requires none { bound.old ≡ none_bound }
     ensures { Gives (λ _. bound.new) result (bound_means scope.now locals.now (bound_tree form.entry)) }

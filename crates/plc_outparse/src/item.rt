@@ -28,12 +28,7 @@ pub struct Parts {
 
 /// An invariant.
 #[tactic(auto, unfolding(crate::specs::Meaning::item_step))]
-fn add_invariant(
-    alloc: Global,
-    scope: &Scope,
-    parts: &mut Parts,
-    form: &ClauseForm,
-) -> Meaning<()>
+fn add_invariant(alloc: Global, scope: &Scope, parts: &mut Parts, form: &ClauseForm) -> Meaning<()>
     ensures { (ops : List Op) (by_op : List (List ℕ)) → Gives (λ _. parts_of parts.new) result
         (item_step scope.now ops by_op (parts_of parts.old) (InvariantItem (clause_tree form.now))) }
 {

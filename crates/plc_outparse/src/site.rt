@@ -115,12 +115,7 @@ fn add_label(context: &Context, op: usize, labels: &mut Items<u16>, name: Name) 
 }
 
 /// The labels after the first.
-fn add_labels(
-    context: &Context,
-    op: usize,
-    labels: &mut Items<u16>,
-    names: &[Name],
-) -> Meaning<()>
+fn add_labels(context: &Context, op: usize, labels: &mut Items<u16>, names: &[Name]) -> Meaning<()>
     requires { IsWithinLimits context.now }
     ensures { Gives (λ _. labels.new) result
         (in_turn (label_step context.now.scope.now context.now.by_op.now op) labels.old (map name_tree names.now)) }

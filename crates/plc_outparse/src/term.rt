@@ -119,7 +119,8 @@ fn sort_place(form: TermForm) -> u32
         TermForm::Place(Place { name, field: None }) => name.at,
         TermForm::Place(
             Place {
-                field: Some(field), ..
+                field: Some(field),
+                ..
             },
         ) => field.at,
         TermForm::Number(n) => n.at,
