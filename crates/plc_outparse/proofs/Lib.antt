@@ -1,3 +1,4 @@
+pub mod Alike
 pub mod AtFront
 pub mod Fits
 pub mod InTurn
