@@ -9,7 +9,6 @@ use Rattle.plc_syntax.specs.Trees as trees
 use Rattle.plc_syntax.specs.Trees.{Text, Placed, Pieces, word, symbol, name, from_place, placed_then, kinds_of}
 use Rattle.plc_syntax.specs.Trees.{AreInPlace}
 use Rattle.plc_syntax.specs.Trees.{each_then, maybe_then}
-use Rattle.plc_syntax.specs.Syntax.{Spelling}
 use Rattle.plc_syntax.proofs.Pieces.{Tokens, from_kinds, begun_there, some_begun}
 use Rattle.plc_syntax.proofs.Combinators.{Fuelled}
 use Rattle.plc_syntax.proofs.FormLaws.{some_literal}

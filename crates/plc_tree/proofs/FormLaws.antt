@@ -12,7 +12,7 @@ use Rattle.plc_syntax.specs.Trees as trees
 use Rattle.plc_syntax.specs.Trees.{Text, Placed, Pieces, word, word_at, symbol, name, placed_then, kinds_of, each_then}
 use Rattle.plc_syntax.specs.Trees.{maybe_then}
 use Rattle.plc_syntax.specs.Syntax.{Spelling}
-use Rattle.plc_syntax.proofs.Pieces.{Tokens, begun_there, some_begun}
+use Rattle.plc_syntax.proofs.Pieces.{begun_there, some_begun}
 use Rattle.plc_syntax.proofs.Combinators.{Fuelled, same, Law, Early, Choice, takes, takes_at, leaves, last, fault}
 use Rattle.plc_syntax.proofs.Combinators.{early_fault, led_law, early_led, then_form, then_whole, within, any_fuel}
 use Rattle.plc_syntax.proofs.Combinators.{then_symbol, then_word, ended_by_law, a_name, a_name_fits, name_law}
