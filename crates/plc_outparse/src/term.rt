@@ -1,8 +1,7 @@
 // What terms and literals mean. A term is judged for itself, whichever sort it has; the second term of
 // an equation has to be of the first one's sort.
-ghost use Rattle.std.specs.Prelude.{◌≡◌, ◌≤◌, length, Option, Some, None};
-ghost use Rattle.plc_syntax.specs.Trees.{PlaceOf, RetiredFlag, MarkedFlag};
-ghost use Rattle.plc_syntax.specs.Views.{name_tree, place_tree, term_tree, flag_tree, literal_tree};
+ghost use Rattle.std.specs.Prelude.{◌≡◌, ◌≤◌, length};
+ghost use Rattle.plc_syntax.specs.Views.{place_tree, term_tree, flag_tree, literal_tree};
 ghost use Rattle.plc_scope.specs.Answers.{Gives};
 ghost use Rattle.plc_scope.specs.Scope.{most_locals};
 ghost use Rattle.plc_outparse.specs.Meaning.{place_means, me_means, term_means, sort_place, second_means};
@@ -14,7 +13,7 @@ use crate::kind::Kind;
 use crate::reach::{Reach, base_at, kind_at};
 use plc_logic::{Base, Literal, Sort, Term};
 use plc_scope::{Meaning, ParseFault};
-use plc_syntax::{Flag as FlagForm, Literal as LiteralForm, Name, Place, Term as TermForm};
+use plc_syntax::{Flag as FlagForm, Literal as LiteralForm, Place, Term as TermForm};
 
 /// The term that a base alone is.
 fn base_term(base: Base) -> Term
@@ -50,38 +49,23 @@ fn as_field(base: Base, kind: Kind) -> Option<(Term, Sort)>
     }
 }
 
-/// A name alone.
-fn name(reach: &Reach, name: Name) -> Meaning<(Term, Sort)>
-    requires { length reach.now.locals.now ≤ most_locals }
-    ensures { Gives (λ r. (r.0, r.1)) result (place_means (reach_of reach.now) (PlaceOf (name_tree name.entry) None)) }
-{
-    match as_term(kind_at(reach, name)?) {
-        Some(term) => Ok(term),
-        None => Err(ParseFault::WrongSort { at: name.at }),
-    }
-}
-
-/// A field of a base.
-fn field(reach: &Reach, name: Name, field: Name) -> Meaning<(Term, Sort)>
-    requires { length reach.now.locals.now ≤ most_locals }
-    ensures { Gives (λ r. (r.0, r.1)) result
-        (place_means (reach_of reach.now) (PlaceOf (name_tree name.entry) (Some (name_tree field.entry)))) }
-{
-    let base = base_at(reach, name)?;
-    match as_field(base, kind_at(reach, field)?) {
-        Some(term) => Ok(term),
-        None => Err(ParseFault::WrongSort { at: field.at }),
-    }
-}
-
 /// A name, or a field of one, as a term with its sort.
 fn place(reach: &Reach, place: Place) -> Meaning<(Term, Sort)>
     requires { length reach.now.locals.now ≤ most_locals }
     ensures { Gives (λ r. (r.0, r.1)) result (place_means (reach_of reach.now) (place_tree place.entry)) }
 {
     match place.field {
-        None => name(reach, place.name),
-        Some(after) => field(reach, place.name, after),
+        None => match as_term(kind_at(reach, place.name)?) {
+            Some(term) => Ok(term),
+            None => Err(ParseFault::WrongSort { at: place.name.at }),
+        },
+        Some(field) => {
+            let base = base_at(reach, place.name)?;
+            match as_field(base, kind_at(reach, field)?) {
+                Some(term) => Ok(term),
+                None => Err(ParseFault::WrongSort { at: field.at }),
+            }
+        }
     }
 }
 
@@ -165,58 +149,24 @@ fn as_pointer_field(base: Base, kind: Kind) -> Option<Term>
     }
 }
 
-/// A shared pointer or a pointer local.
-fn pointer_name(reach: &Reach, name: Name) -> Meaning<Term>
-    requires { length reach.now.locals.now ≤ most_locals }
-    ensures { Gives (λ t. t) result (pointer_means (reach_of reach.now) (PlaceOf (name_tree name.entry) None)) }
-{
-    match as_pointer(kind_at(reach, name)?) {
-        Some(term) => Ok(term),
-        None => Err(ParseFault::WrongSort { at: name.at }),
-    }
-}
-
-/// A pointer field of a base.
-fn pointer_field(reach: &Reach, name: Name, field: Name) -> Meaning<Term>
-    requires { length reach.now.locals.now ≤ most_locals }
-    ensures { Gives (λ t. t) result
-        (pointer_means (reach_of reach.now) (PlaceOf (name_tree name.entry) (Some (name_tree field.entry)))) }
-{
-    let base = base_at(reach, name)?;
-    match as_pointer_field(base, kind_at(reach, field)?) {
-        Some(term) => Ok(term),
-        None => Err(ParseFault::WrongSort { at: field.at }),
-    }
-}
-
-/// A place that holds a pointer, and so a mark.
+/// A place that holds a pointer, and so a mark: a shared pointer or a pointer local, or a pointer field.
 fn pointer(reach: &Reach, place: Place) -> Meaning<Term>
     requires { length reach.now.locals.now ≤ most_locals }
     ensures { Gives (λ t. t) result (pointer_means (reach_of reach.now) (place_tree place.entry)) }
 {
     match place.field {
-        None => pointer_name(reach, place.name),
-        Some(after) => pointer_field(reach, place.name, after),
+        None => match as_pointer(kind_at(reach, place.name)?) {
+            Some(term) => Ok(term),
+            None => Err(ParseFault::WrongSort { at: place.name.at }),
+        },
+        Some(field) => {
+            let base = base_at(reach, place.name)?;
+            match as_pointer_field(base, kind_at(reach, field)?) {
+                Some(term) => Ok(term),
+                None => Err(ParseFault::WrongSort { at: field.at }),
+            }
+        }
     }
-}
-
-/// The literal that a node is retired, or is not.
-fn retired(reach: &Reach, yes: bool, name: Name) -> Meaning<Literal>
-    requires { length reach.now.locals.now ≤ most_locals }
-    ensures { Gives (λ r. r) result (flag_means (reach_of reach.now) yes (RetiredFlag (name_tree name.entry))) }
-{
-    let x = base_at(reach, name)?;
-    Ok(Literal::Retired { x, yes })
-}
-
-/// The literal that a place is marked, or is not.
-fn marked(reach: &Reach, yes: bool, place: Place) -> Meaning<Literal>
-    requires { length reach.now.locals.now ≤ most_locals }
-    ensures { Gives (λ r. r) result
-        (flag_means (reach_of reach.now) yes (MarkedFlag (place_tree place.entry))) }
-{
-    let t = pointer(reach, place)?;
-    Ok(Literal::Marked { t, yes })
 }
 
 /// The literal that a flag is so, or is not.
@@ -225,8 +175,14 @@ fn flag(reach: &Reach, yes: bool, form: FlagForm) -> Meaning<Literal>
     ensures { Gives (λ r. r) result (flag_means (reach_of reach.now) yes (flag_tree form.entry)) }
 {
     match form {
-        FlagForm::Retired(name) => retired(reach, yes, name),
-        FlagForm::Marked(place) => marked(reach, yes, place),
+        FlagForm::Retired(name) => {
+            let x = base_at(reach, name)?;
+            Ok(Literal::Retired { x, yes })
+        }
+        FlagForm::Marked(place) => {
+            let t = pointer(reach, place)?;
+            Ok(Literal::Marked { t, yes })
+        }
     }
 }
 

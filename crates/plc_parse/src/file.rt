@@ -1,9 +1,9 @@
 // What a file's tree means: the declarations before the operations, the operations, and the outline. Each part
 // has a function of its own, so that few values live where one may fail.
-ghost use Rattle.std.specs.Prelude.{◌≡◌, ◌≤◌, ◌+◌, ◌-◌, ◌*◌, ◌∷◌, Some, Ok, [], length, IfOk};
+ghost use Rattle.std.specs.Prelude.{◌≡◌, ◌≤◌, ◌+◌, ◌-◌, ◌*◌, ◌∷◌, Ok, [], length, IfOk};
 ghost use Rattle.plc_base.specs.Limits.{most, most_names};
 ghost use Rattle.plc_base.specs.declared.limits.What1.TheVariants as limits;
-ghost use Rattle.plc_syntax.specs.Views.{watch_tree, watched_tree};
+ghost use Rattle.plc_syntax.specs.Views.{watched_tree};
 ghost use Rattle.plc_outparse.specs.Answers.{OpsFit};
 ghost use Rattle.plc_scope.specs.Answers.{Gives, HasRoom};
 ghost use Rattle.plc_scope.specs.Scope.{most_locals};
@@ -69,29 +69,19 @@ fn declarations(alloc: Global, scope: &mut Scope, form: &Heading) -> Meaning<Dec
     })
 }
 
-/// What a file says that is watched.
-fn observer(scope: &Scope, watch: Watch) -> Meaning<Observer>
-    requires { length scope.now.locals ≤ most_locals }
-    ensures { Gives (λ o. o) result (watch_means scope.now (Some (watch_tree watch.entry))) }
-{
-    match watch {
-        Watch::Hazard(name) => Ok(Observer::Hazard(scope.protecting_at(name)?)),
-        Watch::Epoch(enter, leave) => {
-            let enter = scope.without_pointer_at(enter)?;
-            let leave = scope.without_pointer_at(leave)?;
-            Ok(Observer::Epoch(enter, leave))
-        }
-    }
-}
-
-/// The observer, which is plain where the file names none.
-fn observer_or_plain(scope: &Scope, watch: Option<Watch>) -> Meaning<Observer>
+/// What a file says that is watched: plain where it says nothing.
+fn observer(scope: &Scope, watch: Option<Watch>) -> Meaning<Observer>
     requires { length scope.now.locals ≤ most_locals }
     ensures { Gives (λ o. o) result (watch_means scope.now (watched_tree watch.entry)) }
 {
     match watch {
-        Some(watch) => observer(scope, watch),
         None => Ok(Observer::Plain),
+        Some(Watch::Hazard(name)) => Ok(Observer::Hazard(scope.protecting_at(name)?)),
+        Some(Watch::Epoch(enter, leave)) => {
+            let enter = scope.without_pointer_at(enter)?;
+            let leave = scope.without_pointer_at(leave)?;
+            Ok(Observer::Epoch(enter, leave))
+        }
     }
 }
 
@@ -163,7 +153,7 @@ fn before_operations(alloc: Global, scope: &mut Scope, form: &Heading) -> Meanin
     ensures declares { IfOk result (λ _. AddsNames scope.old scope.new front_names) }
 {
     let declared = declarations(alloc, scope, form)?;
-    let observer = observer_or_plain(scope, form.watched)?;
+    let observer = observer(scope, form.watched)?;
     let ghosts = declare_all(alloc, scope, form.auxiliaries.as_slice())?;
     match init_primitives(alloc, scope, &form.starts) {
         Ok(init) => Ok(Front {
