@@ -1,7 +1,6 @@
 -- Whether an outline has a meaning, and which, doesn't depend on its places: they say only where a fault is told.
-use Rattle.std.proofs.Common.{◌≡◌, ◌==◌, ◌||◌, ℕ, Bool, true, false, if◌then◌else◌, List, [], ◌∷◌, Option, Some, None, Result, Ok, Err, length, map, refl}
+use Rattle.std.proofs.Common.{◌≡◌, ◌==◌, ◌+◌, ◌||◌, ℕ, Bool, true, false, if◌then◌else◌, List, [], ◌∷◌, Option, Some, None, Result, Ok, Err, length, map, refl}
 use Rattle.plc_base.specs.Limits.{most}
-use Rattle.plc_base.specs.declared.limits.What1.{What1}
 use Rattle.plc_base.specs.declared.limits.What1.TheVariants as limits
 use Rattle.plc_base.specs.Names.{NameList, place_of}
 use Rattle.plc_lang.specs.declared.syntax.Local.{Local}
@@ -20,7 +19,7 @@ use Rattle.plc_scope.specs.declared.fault.ParseFault.TheVariants as faults
 use Rattle.plc_scope.specs.declared.scope.Scope.{Scope}
 use Rattle.plc_scope.specs.Limits.{within_limit, stands_at}
 use Rattle.plc_scope.specs.Scope.{if_fits, if_new, known, with_last}
-use Rattle.plc_scope.proofs.Alike.{Same, same, then_same, fits_same, known_same, needed_same}
+use Rattle.plc_scope.proofs.Alike.{Same, same, then_same, fits_same, known_same, needed_same, new_same, limit_same, refused_same}
 use Rattle.plc_logic.specs.declared.clause.Base.{Base}
 use Rattle.plc_logic.specs.declared.clause.Literal.{Literal}
 use Rattle.plc_logic.specs.declared.clause.Sort.{Sort}
@@ -33,15 +32,6 @@ use Rattle.plc_outparse.specs.Meaning.{second_means, pointer_means, flag_means, 
 use Rattle.plc_outparse.specs.Meaning.{none_bound, if_free, bound_with, second_bound, bound_means, reach, clause_means}
 use Rattle.plc_outparse.specs.Meaning.{op_named, op_at, label_named, with_op, label_at, if_same_op, label_step}
 use Rattle.plc_outparse.specs.Meaning.{labels_mean, Parts, item_step, depth_means, outline_means}
-
--- a form past the limit has no meaning, whatever it would have
-pub limit_same : {A : Type 0} (n : ℕ) (what : What1) (r q : Result A ParseFault) → Same r q
-    → Same (within_limit n what r) (within_limit n what q)
-limit_same n what r q h = by (n == most what)
-  where
-    by : (b : Bool) → Same (if b then Err (faults.Limit what _) else r) (if b then Err (faults.Limit what _) else q)
-    by true = tt
-    by false = h
 
 turns_same : {S X : Type 0} (step : S → X → Result S ParseFault) (bare : X → X)
     → ((s : S) (x : X) → Same (step s x) (step s (bare x))) → (s : S) (xs : List X)
@@ -97,22 +87,10 @@ module _ (r : Reach) where
   literal_same (EqualityLiteral a e b) = then_same _ _ _ _ (term_same a) (λ x.
       then_same _ _ _ _ (second_same x.1 b) (λ y. refl))
 
-  no_literal : (a b c d : Bool) (e f g h : ParseFault) → Same {A = Literal} (if a then Err e else (if b then Err f else Err e))
-      (if c then Err g else (if d then Err h else Err g))
-  no_literal true b true d e f g h = tt
-  no_literal true b false true e f g h = tt
-  no_literal true b false false e f g h = tt
-  no_literal false true true d e f g h = tt
-  no_literal false true false true e f g h = tt
-  no_literal false true false false e f g h = tt
-  no_literal false false true d e f g h = tt
-  no_literal false false false true e f g h = tt
-  no_literal false false false false e f g h = tt
-
   counted_same : (n a b : ℕ) (m o : Result Literal ParseFault) → Same m o → Same (counted n a m) (counted n b o)
   counted_same n a b (Ok x) (Ok y) h = limit_same n limits.Literals (Ok x) (Ok y) h
   counted_same n a b (Err e) (Err f) h =
-      no_literal (stands_at a e) (n == most limits.Literals) (stands_at b f) (n == most limits.Literals) e _ f _
+      refused_same (stands_at a e) (stands_at b f) (n == most limits.Literals) e f (faults.Limit limits.Literals (most limits.Literals + 1))
   counted_same n a b (Ok x) (Err f) h = absurd h
   counted_same n a b (Err e) (Ok y) h = absurd h
 
@@ -129,13 +107,9 @@ module _ (s : Scope) where
     unfolding bound_with
     bound_same bound n = free (declared_kind s ls n.value)
       where
-        new : (o : Option ℕ) → Same (if_new o n.at (with_last bound n.value)) (if_new o 0 (with_last bound n.value))
-        new None = refl
-        new (Some i) = tt
-
         free : (k : Option Kind) → Same (if_free n.at k (if_new (place_of n.value bound.names) n.at (with_last bound n.value)))
             (if_free 0 k (if_new (place_of n.value bound.names) 0 (with_last bound n.value)))
-        free None = new (place_of n.value bound.names)
+        free None = new_same (place_of n.value bound.names) n.at 0 (with_last bound n.value)
         free (Some k) = tt
 
     second_bound_same : (bound : NameList) (n : Option (Placed Text))

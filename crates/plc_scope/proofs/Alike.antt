@@ -1,6 +1,10 @@
 -- Whether a form has a meaning, and which, doesn't depend on its places: they say only where a fault is told.
-use Rattle.std.proofs.Common.{◌≡◌, ℕ, Bool, true, false, if◌then◌else◌, Option, Some, None, Result, Ok, Err, refl, sym, subst}
+use Rattle.std.proofs.Common.{◌≡◌, ◌==◌, ◌+◌, length, slice_get, ℕ, Bool, true, false, if◌then◌else◌, Option, Some, None, Result, Ok, Err, refl, sym, subst}
 use Rattle.plc_base.specs.Functions.{is_retire}
+use Rattle.plc_base.specs.Limits.{most}
+use Rattle.plc_base.specs.Names.{place_of}
+use Rattle.plc_base.specs.declared.limits.What1.{What1}
+use Rattle.plc_base.specs.declared.limits.What1.TheVariants as limits
 use Rattle.plc_base.specs.declared.ids.FieldId.{FieldId}
 use Rattle.plc_base.specs.declared.ids.FuncId.{FuncId}
 use Rattle.plc_lang.specs.declared.syntax.Arg.TheVariants as args
@@ -23,12 +27,18 @@ use Rattle.plc_syntax.proofs.Unplaced.{unplaced_argument}
 use Rattle.plc_scope.specs.declared.fault.ParseFault.{ParseFault}
 use Rattle.plc_scope.specs.declared.fault.ParseFault.TheVariants as faults
 use Rattle.plc_scope.specs.declared.scope.Scope.{Scope}
+use Rattle.plc_scope.specs.declared.binding.Binding.{Binding}
+use Rattle.plc_scope.specs.declared.binding.Binding.TheVariants.{Taken}
 use Rattle.plc_scope.specs.declared.binding.Role.{Role}
 use Rattle.plc_scope.specs.declared.binding.Role.TheVariants.{PointerVariable as pointer_variable}
 use Rattle.plc_scope.specs.declared.binding.Role.TheVariants.{DataLocal as data_local, PointerField as pointer_field}
 use Rattle.plc_scope.specs.declared.binding.Role.TheVariants.{DataField as data_field}
 use Rattle.plc_scope.specs.Scope.{◌>>=◌, known, if_fits, needed, role_of, role_at, pointer_at, pointer_local_at, data_at}
 use Rattle.plc_scope.specs.Scope.{pointer_field_at, data_field_at, function_at, auxiliary_at, value_at, thread_at}
+use Rattle.plc_scope.specs.Scope.{if_new, with_name, declared, declared_label, declared_local, declared_parameter}
+use Rattle.plc_scope.specs.Scope.{may_name_local, has_local, local_number, most_locals, local_limit, with_local}
+use Rattle.plc_scope.specs.Scope.{protecting_at, without_pointer_at}
+use Rattle.plc_scope.specs.Limits.{within_limit}
 use Rattle.plc_scope.specs.Primitives.{with_number, pointer_value, data_value, value_into, pointer_atom, atom_into}
 use Rattle.plc_scope.specs.Primitives.{set_means, refresh_from, refresh_name_means, refresh_means, ghost_value_means}
 use Rattle.plc_scope.specs.Primitives.{ghost_set_means, pointer_equality, pointer_test, test_of, test_means, relation}
@@ -67,6 +77,27 @@ pub then_same : {A C : Type 0} (r q : Result A ParseFault) (f g : A → Result C
     → ((x : A) → Same (f x) (g x)) → Same (r >>= f) (q >>= g)
 then_same r q f g h k = then_alike (λ x y. x ≡ y) r q f g h k
 
+-- a form past the limit has no meaning, whatever it would have
+pub limit_same : {A : Type 0} (n : ℕ) (what : What1) (r q : Result A ParseFault) → Same r q
+    → Same (within_limit n what r) (within_limit n what q)
+limit_same n what r q h = by (n == most what)
+  where
+    by : (b : Bool) → Same (if b then Err (faults.Limit what (most what + 1)) else r)
+        (if b then Err (faults.Limit what (most what + 1)) else q)
+    by true = tt
+    by false = h
+
+-- neither is answered, whichever fault goes first
+pub refused_same : {A : Type 0} (a b c : Bool) (e d f : ParseFault)
+    → Same {A = A} (if a then Err e else (if c then Err f else Err e)) (if b then Err d else (if c then Err f else Err d))
+refused_same true true c e d f = tt
+refused_same true false true e d f = tt
+refused_same true false false e d f = tt
+refused_same false true true e d f = tt
+refused_same false true false e d f = tt
+refused_same false false true e d f = tt
+refused_same false false false e d f = tt
+
 -- what one has, the other has
 pub answered : {A : Type 0} (r q : Result A ParseFault) (x : A) → Same r q → r ≡ Ok x → q ≡ Ok x
 answered (Ok y) (Ok z) x h e = let first : y ≡ x = cc in subst (λ w. Ok w ≡ Ok x) h (rw first refl)
@@ -87,7 +118,53 @@ pub needed_same : {K A : Type 0} (wanted : K → Option A) (a b : ℕ) (o : Opti
 needed_same wanted a b (Some k) = fits_same a b (wanted k)
 needed_same wanted a b None = tt
 
+pub new_same : {A : Type 0} (o : Option ℕ) (a b : ℕ) (x : A) → Same (if_new o a x) (if_new o b x)
+new_same None a b x = refl
+new_same (Some i) a b x = tt
+
 module _ (s : Scope) where
+  -- ---- declarations
+
+  pub declared_same : (n : Placed Text) (binding : Binding) → Same (declared s n binding) (declared s (unplaced n) binding)
+  declared_same n binding = new_same (place_of n.value s.names.names) n.at 0 (with_name s n.value binding)
+
+  pub declared_label_same : (n : Placed Text) → Same (declared_label s n) (declared_label s (unplaced n))
+  declared_label_same n = then_same _ _ _ _ (declared_same n Taken) (λ t. refl)
+
+  number_local_same : (o : Option ℕ) (n : Placed Text) → Same (local_number o s n) (local_number o s (unplaced n))
+  number_local_same None n = refl
+  number_local_same (Some i) n = by (may_name_local (slice_get s.bindings i) (has_local s.locals i))
+    where
+      by : (b : Bool) → Same (if b then Ok (i, s) else Err (faults.Duplicate n.at)) (if b then Ok (i, s) else Err (faults.Duplicate 0))
+      by true = refl
+      by false = tt
+
+  local_limit_same : (r q : Result Scope ParseFault) → Same r q → Same (local_limit s r) (local_limit s q)
+  local_limit_same r q h = by (length s.locals == most_locals)
+    where
+      by : (b : Bool) → Same (if b then Err (faults.Limit limits.Locals (most_locals + 1)) else r)
+          (if b then Err (faults.Limit limits.Locals (most_locals + 1)) else q)
+      by true = tt
+      by false = h
+
+  pub declared_local_same : (n : Placed Text) (p : Bool) → Same (declared_local s n p) (declared_local s (unplaced n) p)
+  unfolding declared_local
+  declared_local_same n p = local_limit_same _ _ (then_same _ _ _ _ (number_local_same (place_of n.value s.names.names) n) (λ x. refl))
+
+  pub declared_parameter_same : (n : Placed Text) → Same (declared_parameter s n) (declared_parameter s (unplaced n))
+  unfolding declared_parameter
+  declared_parameter_same n = then_same _ _ _ _ (number_local_same (place_of n.value s.names.names) n) (λ x. same (local_limit s (Ok (with_local x.1 x.0 false true))))
+
+  -- ---- uses
+
+  pub protecting_same : (n : Placed Text) → Same (protecting_at s n) (protecting_at s (unplaced n))
+  unfolding protecting_at
+  protecting_same n = needed_same _ n.at 0 (role_of s n.value)
+
+  pub without_pointer_same : (n : Placed Text) → Same (without_pointer_at s n) (without_pointer_at s (unplaced n))
+  unfolding without_pointer_at
+  without_pointer_same n = needed_same _ n.at 0 (role_of s n.value)
+
   pointer_same : (n : Placed Text) → Same (pointer_at s n) (pointer_at s (unplaced n))
   unfolding pointer_at
   pointer_same n = needed_same _ n.at 0 (role_of s n.value)
