@@ -127,8 +127,8 @@ module _ (lines : List ℕ) (f : FileTree) (s : Scope) (fields : List Field × S
       after _ _ _ _ to_s (after _ _ _ _ to_fields (after _ _ _ _ to_pointers (after _ _ _ _ to_functions (after _ _ _ _ to_observer (after _ _ _ _ to_ghosts (after _ _ _ _ begun (after _ _ _ _ done
       (after _ _ _ _ said refl))))))))
 
-  outline_read : (bound : Bound file ops.1) → OutlineRead file ops.1 bound ops.0 f.outlined outline
-  outline_read bound = has_along (OutlineRead file ops.1 bound ops.0 f.outlined) (outlined_means ops.1 ops.0 f.outlined) outline to_outline (outline_found file ops.1 bound f.outlined)
+  outline_read : (bound : Bound file ops.1) → OutlineRead file ops.1 bound f.outlined outline
+  outline_read bound = has_along (OutlineRead file ops.1 bound f.outlined) (outlined_means ops.1 ops.0 f.outlined) outline to_outline (outline_found file ops.1 bound f.outlined)
 
   parts_read : FileRead lines f unit
   parts_read =
