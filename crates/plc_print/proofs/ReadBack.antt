@@ -71,8 +71,7 @@ texts_read_back lexed text ts u s read short =
     let placed = file_read (canonical_tree u) in
     let first = means_again (lines_of ts) [] f u read.means.is in
     let again = placed_again [] (lines_of there.0) (canonical_tree u) placed.0 first.0 placed.2 first.1 in
-    let shallow = shallow_again (lines_of ts) f u read.means.is (subst NoneTooDeep (sym tokens) read.shallow) in
-    (
+    let shallow = shallow_again (lines_of ts) f u read.means.is (subst NoneTooDeep (sym tokens) read.shallow) in (
       there.0,
       again.0,
       there.1,

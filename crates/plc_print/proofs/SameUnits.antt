@@ -78,9 +78,11 @@ module _ (lines others : List ℕ) where
     statement_alike s in_loop at (ChooseStatement a b os) =
         after_lineless without_lines _ _ _ _ _ (block_alike s in_loop a) (λ x y t h.
         after_lineless without_lines _ _ _ _ _ (block_alike t in_loop b) (λ z w u g.
-        after_lineless blocks_without_lines _ _ _ _ _ (ors_alike u in_loop os) (λ v m n e.
-        (ap (λ k. Choose (And k (And (without_lines z) (blocks_without_lines v)))) h ∙ ap (λ k. Choose (And (without_lines y) (And k (blocks_without_lines v)))) g
-        ∙ ap (λ k. Choose (And (without_lines y) (And (without_lines w) k))) e, refl))))
+        after_lineless blocks_without_lines _ _ _ _ _ (ors_alike u in_loop os) (λ v m n e. (
+          ap (λ k. Choose (And k (And (without_lines z) (blocks_without_lines v)))) h ∙ ap (λ k. Choose (And (without_lines y) (And k (blocks_without_lines v)))) g
+              ∙ ap (λ k. Choose (And (without_lines y) (And (without_lines w) k))) e,
+          refl,
+        ))))
     statement_alike s in_loop at (LoopStatement b) = after_lineless without_lines _ _ _ _ _ (block_alike s true b) (λ x y t h. (ap Loop h, refl))
     statement_alike s true at BreakStatement = (refl, refl)
     statement_alike s false at BreakStatement = tt

@@ -178,9 +178,9 @@ module _ (file : File) (s : Scope) (bound : Bound file s) where
       next (λ g. Ends file s → auxiliary_name file g.0 ≡ f.value) _ (auxiliary_at s f) _ (names_found file s f bound).auxiliary (λ g k.
       next (IsGhostValue g.0 v) _ (ghost_value_means s in_init g.0 g.1 v) _ (ghost_value_found in_init g.0 g.1 v) (λ w m.
       record {
-          stands = λ e. rw (h e, k e, m e) refl;
-          begins = λ none e. ap (λ (ls : List Local). InitialGhost (SetGhost (bare (variable_name file ls p)) (bare (auxiliary_name file g.0)) (ghost_value_tree file ls g.0 w))) (sym none) ∙ rw (h e, k e, m e) refl;
-        })))
+        stands = λ e. rw (h e, k e, m e) refl;
+        begins = λ none e. ap (λ (ls : List Local). InitialGhost (SetGhost (bare (variable_name file ls p)) (bare (auxiliary_name file g.0)) (ghost_value_tree file ls g.0 w))) (sym none) ∙ rw (h e, k e, m e) refl;
+      })))
 
   -- ---- tests
 
