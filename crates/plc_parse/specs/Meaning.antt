@@ -15,7 +15,8 @@ use Rattle.plc_lang.specs.Statements.{Statement, One, Atomic, Call, If, Choose, 
 use Rattle.plc_lang.specs.Statements.{Statements, Empty, Then, Blocks, NoBlock, And}
 use Rattle.plc_auto.specs.declared.observer.Observer.{Observer}
 use Rattle.plc_auto.specs.declared.observer.Observer.TheVariants.{Plain, Hazard, Epoch}
-use Rattle.plc_syntax.specs.Trees.{Text, Placed, FieldTree, PointerField as PointerFieldTree, DataField as DataFieldTree}
+use Rattle.plc_syntax.specs.Trees.{Text, Placed, FieldTree, PointerField as PointerFieldTree}
+use Rattle.plc_syntax.specs.Trees.{DataField as DataFieldTree}
 use Rattle.plc_syntax.specs.Trees.{FunctionTree, Declares, WatchTree, UseHazard, UseEpoch, OneOf, OfThreads, GhostTree}
 use Rattle.plc_syntax.specs.Trees.{Auxiliary as AuxiliaryTree, InitialTree, PrimitiveTree, StatementTree}
 use Rattle.plc_syntax.specs.Trees.{PrimitiveStatement, AtomicStatement, CallStatement, IfStatement, ChooseStatement}

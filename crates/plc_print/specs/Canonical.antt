@@ -29,8 +29,9 @@ use Rattle.plc_lang.specs.Statements.{Statement, One, Atomic, Call, If, Choose, 
 use Rattle.plc_lang.specs.Statements.{Statements, Empty, Then, Blocks, NoBlock, And}
 use Rattle.plc_auto.specs.declared.observer.Observer.{Observer}
 use Rattle.plc_auto.specs.declared.observer.Observer.TheVariants.{Plain, Hazard, Epoch}
-use Rattle.plc_syntax.specs.Trees.{Text, Placed, FieldTree, PointerField, DataField, Declares, WatchTree, UseHazard, UseEpoch}
-use Rattle.plc_syntax.specs.Trees.{GhostKindTree, OneOf, OfThreads, Auxiliary, PlaceTree, PlaceOf, AtomTree, NullAtom, NumberAtom}
+use Rattle.plc_syntax.specs.Trees.{Text, Placed, FieldTree, PointerField, DataField, Declares, WatchTree, UseHazard}
+use Rattle.plc_syntax.specs.Trees.{UseEpoch, GhostKindTree, OneOf, OfThreads, Auxiliary, PlaceTree, PlaceOf, AtomTree}
+use Rattle.plc_syntax.specs.Trees.{NullAtom, NumberAtom}
 use Rattle.plc_syntax.specs.Trees.{NameAtom, ValueTree, NullValue, NewValue, NumberValue, PlaceValue, SetTree, SetName}
 use Rattle.plc_syntax.specs.Trees.{SetField, RefreshName, RefreshField, GhostValueTree, NameGhost, MeGhost, NoneGhost}
 use Rattle.plc_syntax.specs.Trees.{GhostSetTree, SetGhost, InitialTree, InitialSet, InitialGhost, Comparison, SameAs}
@@ -185,7 +186,8 @@ module _ (file : File) (locals : List Local) where
     statement_tree (One k) = PrimitiveStatement (primitive_tree k)
     statement_tree (Atomic ks) = AtomicStatement (map (λ k. bare (primitive_tree k)) ks)
     statement_tree (Call f a active d) =
-        CallStatement (bare (function_name file f)) (argument_tree a active) (option_map (λ l. bare (label_name file l)) d)
+        CallStatement (bare (function_name file f)) (argument_tree a active)
+        (option_map (λ l. bare (label_name file l)) d)
     statement_tree (If c y n) = IfStatement (condition_tree c) (block_tree y) (else_block n (block_tree n))
     statement_tree (Choose bs) = choice_tree (blocks_tree bs)
     statement_tree (Loop b) = LoopStatement (block_tree b)

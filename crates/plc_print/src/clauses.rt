@@ -7,7 +7,8 @@ ghost use Rattle.plc_lex.specs.declared.token.Symbol.TheVariants as symbols;
 ghost use Rattle.plc_logic.specs.declared.clause.Literal.TheVariants as literals;
 ghost use Rattle.plc_syntax.specs.Trees.{plain, NoBound, MarkedFlag, each_then, place_then, term_then, equality_symbol};
 ghost use Rattle.plc_syntax.specs.Trees.{flag_then, literal_then, or_literal_then, bound_then, clause_then};
-ghost use Rattle.plc_print.specs.Outlines.{bare, base_name, field_term, term_tree, pointer_place, literal_tree, bound_tree};
+ghost use Rattle.plc_print.specs.Outlines.{bare, base_name, field_term, term_tree, pointer_place, literal_tree};
+ghost use Rattle.plc_print.specs.Outlines.{bound_tree};
 ghost use Rattle.plc_print.specs.Outlines.{claims_tree, clause_tree};
 ghost use Rattle.plc_print.specs.Pieces.{Prints};
 

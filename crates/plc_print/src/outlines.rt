@@ -73,7 +73,8 @@ fn at_names(
     clause: &Clause,
 ) -> Printed
     ensures { OnOk result
-        (Prints out.old out.new (item_then (AtItem (bare first.now) (map bare (map (label_name reach.entry.file.now) others.now))
+        (Prints out.old out.new (item_then (AtItem (bare first.now)
+        (map bare (map (label_name reach.entry.file.now) others.now))
         (clause_tree reach.entry.file.now reach.entry.locals.now clause.now)) [])) }
 {
     out.tokens(&[Piece::Word(Keyword::At), Piece::Name(first)])?;

@@ -50,7 +50,8 @@ fn set_name<'x>(out: &mut Printer, name: &'x [u8], value: Piece<'x>) -> Printed
 fn set_mark<'x>(out: &mut Printer, name: &'x [u8], word: Keyword, from: &'x [u8]) -> Printed
     ensures { OnOk result
         (Prints out.old out.new
-        (plain (NameToken name.now) ∷ plain (SymbolToken symbols.Assign) ∷ plain (WordToken word) ∷ plain (NameToken from.now) ∷ [])) }
+        (plain (NameToken name.now) ∷ plain (SymbolToken symbols.Assign) ∷ plain (WordToken word)
+        ∷ plain (NameToken from.now) ∷ [])) }
 {
     out.tokens(&[
         Piece::Name(name),
@@ -74,8 +75,8 @@ fn load<'x>(out: &mut Printer, name: &'x [u8], from: &'x [u8], field: &'x [u8]) 
 fn store<'x>(out: &mut Printer, name: &'x [u8], field: &'x [u8], atom: Piece<'x>) -> Printed
     ensures { OnOk result
         (Prints out.old out.new
-        (plain (NameToken name.now) ∷ plain (SymbolToken symbols.Dot) ∷ plain (NameToken field.now) ∷ plain (SymbolToken symbols.Assign)
-        ∷ piece_of atom.entry ∷ [])) }
+        (plain (NameToken name.now) ∷ plain (SymbolToken symbols.Dot) ∷ plain (NameToken field.now)
+        ∷ plain (SymbolToken symbols.Assign) ∷ piece_of atom.entry ∷ [])) }
 {
     out.tokens(&[Piece::Name(name), DOT, Piece::Name(field), ASSIGN, atom])
 }

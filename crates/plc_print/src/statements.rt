@@ -91,7 +91,8 @@ fn atomic(out: &mut Printer, reach: Reach, prims: &[Prim]) -> Printed
 
 /// A statement that is a word and its semicolon.
 fn word(out: &mut Printer, word: Keyword) -> Printed
-    ensures { OnOk result (Prints out.old out.new (plain (WordToken word) ∷ plain (SymbolToken symbols.Semicolon) ∷ [])) }
+    ensures { OnOk result
+        (Prints out.old out.new (plain (WordToken word) ∷ plain (SymbolToken symbols.Semicolon) ∷ [])) }
 {
     out.tokens(&[Piece::Word(word), SEMICOLON])
 }
@@ -187,7 +188,8 @@ fn choose(out: &mut Printer, reach: Reach, blocks: &[Block]) -> Printed
 fn or_block(out: &mut Printer, reach: Reach, block: &Block) -> Printed
     ensures { OnOk result
         (Prints out.old out.new (plain (WordToken words.Or) ∷ plain (SymbolToken symbols.OpenBrace) ∷ statements_then
-        (block_tree reach.entry.file.now reach.entry.locals.now block.now) (plain (SymbolToken symbols.CloseBrace) ∷ []))) }
+        (block_tree reach.entry.file.now reach.entry.locals.now block.now)
+        (plain (SymbolToken symbols.CloseBrace) ∷ []))) }
 {
     out.token(OR)?;
     braced(out, reach, block)
@@ -222,7 +224,8 @@ fn repeat(out: &mut Printer, reach: Reach, block: &Block) -> Printed
 fn braced(out: &mut Printer, reach: Reach, block: &Block) -> Printed
     ensures { OnOk result
         (Prints out.old out.new (plain (SymbolToken symbols.OpenBrace) ∷ statements_then
-        (block_tree reach.entry.file.now reach.entry.locals.now block.now) (plain (SymbolToken symbols.CloseBrace) ∷ []))) }
+        (block_tree reach.entry.file.now reach.entry.locals.now block.now)
+        (plain (SymbolToken symbols.CloseBrace) ∷ []))) }
 {
     out.token(BEGIN)?;
     statements(out, reach, block)?;

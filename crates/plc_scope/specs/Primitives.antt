@@ -21,7 +21,8 @@ use Rattle.plc_lang.specs.declared.syntax.Primitive.TheVariants.{Refresh, Refres
 use Rattle.plc_lang.specs.declared.syntax.Primitive.TheVariants.{Mark, Unmark, MarkTest}
 use Rattle.plc_lang.specs.declared.syntax.Cond.{Cond}
 use Rattle.plc_lang.specs.declared.syntax.Cond.TheVariants as conditions
-use Rattle.plc_syntax.specs.Trees.{Text, Placed, PlaceTree, PlaceOf, AtomTree, NullAtom, NumberAtom, NameAtom, ValueTree}
+use Rattle.plc_syntax.specs.Trees.{Text, Placed, PlaceTree, PlaceOf, AtomTree, NullAtom, NumberAtom, NameAtom}
+use Rattle.plc_syntax.specs.Trees.{ValueTree}
 use Rattle.plc_syntax.specs.Trees.{NullValue, NewValue, NumberValue, PlaceValue, SetTree, SetName, SetField}
 use Rattle.plc_syntax.specs.Trees.{RefreshTree, RefreshName, RefreshField, GhostValueTree, NameGhost, MeGhost}
 use Rattle.plc_syntax.specs.Trees.{NoneGhost, GhostSetTree, SetGhost, InitialTree, InitialSet, InitialGhost, Comparison}
