@@ -134,8 +134,13 @@ module _ {X : Type 0} (s : Spelling X) (f : Fuelled X) (law : (n : ℕ) → Law 
         stop : StopAt s ts (length h.passed)
         stop = record {
           within = let whole = ap length h.split in omega (arith, count_before h.passed (t ∷ r));
-          goes_on = (x, [], tt, ap kinds_of (h.spelled []) ∙ kinds_before h.passed [] ∙ ap (λ us. us ++ [])
-              (sym front));
+          goes_on = (
+            x,
+            [],
+            tt,
+            ap kinds_of (h.spelled []) ∙ kinds_before h.passed [] ∙ ap (λ us. us ++ [])
+                (sym front),
+          );
           stops = λ l g.
               let one_more = ap (λ (k : ℕ). take (k + 1) ts) at_end
               ∙ ap (take (length (kinds_of h.passed) + 1)) h.split in
