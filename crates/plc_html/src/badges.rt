@@ -51,25 +51,32 @@ fn badge_of(status: u8, answer: &[u8]) -> Badge
     badge_in(&BADGES, status, answer)
 }
 
-const SAFE: &[u8] = b"<p><b class=\"badge safe\">SAFE</b> In no run of this program, with any number of threads, is a step \
+const SAFE: &[u8] =
+    b"<p><b class=\"badge safe\">SAFE</b> In no run of this program, with any number of threads, is a step \
                     a pointer race or a second retire, whatever allowed frees the reclaimer chooses. Each claim and \
                     each clause of the outline is true in every run.</p>\n";
 
-const ENDED: &[u8] = b"<p><b class=\"badge\">END</b> The schedule is followed to its end: no line of it is a race.</p>\n";
+const ENDED: &[u8] =
+    b"<p><b class=\"badge\">END</b> The schedule is followed to its end: no line of it is a race.</p>\n";
 
-const UNTYPED: &[u8] = b"<p><b class=\"badge open\">UNTYPED</b> The types don't say that each pointer may be used where it \
+const UNTYPED: &[u8] =
+    b"<p><b class=\"badge open\">UNTYPED</b> The types don't say that each pointer may be used where it \
                        is used.</p>\n";
 
-const UNPROVED: &[u8] = b"<p><b class=\"badge open\">UNPROVED</b> The types are there, and the outline isn't enough.</p>\n";
+const UNPROVED: &[u8] =
+    b"<p><b class=\"badge open\">UNPROVED</b> The types are there, and the outline isn't enough.</p>\n";
 
 const RACE: &[u8] = b"<p><b class=\"badge race\">RACE</b> A step of this run is a race.</p>\n";
 
-const IMPOSSIBLE: &[u8] = b"<p><b class=\"badge\">IMPOSSIBLE</b> A line of the schedule can't be taken.</p>\n";
+const IMPOSSIBLE: &[u8] =
+    b"<p><b class=\"badge\">IMPOSSIBLE</b> A line of the schedule can't be taken.</p>\n";
 
-const FORBIDDEN: &[u8] = b"<p><b class=\"badge\">FORBIDDEN FREE</b> The reclaimer frees what the observer forbids to \
+const FORBIDDEN: &[u8] =
+    b"<p><b class=\"badge\">FORBIDDEN FREE</b> The reclaimer frees what the observer forbids to \
                          free.</p>\n";
 
-const REFUSED: &[u8] = b"<p><b class=\"badge\">REFUSED</b> The bytes are no file, or no schedule for it.</p>\n";
+const REFUSED: &[u8] =
+    b"<p><b class=\"badge\">REFUSED</b> The bytes are no file, or no schedule for it.</p>\n";
 
 const OTHER: &[u8] = b"<p><b class=\"badge\">ANSWER</b></p>\n";
 

@@ -14,11 +14,13 @@ use std::alloc::{AllocError, Global};
 
 const DOCTYPE: &[u8] = b"<!DOCTYPE html>\n<html lang=\"en\">\n<head>\n<meta charset=\"utf-8\">\n";
 
-const VIEWPORT: &[u8] = b"<meta name=\"viewport\" content=\"width=device-width, initial-scale=1\">\n<title>";
+const VIEWPORT: &[u8] =
+    b"<meta name=\"viewport\" content=\"width=device-width, initial-scale=1\">\n<title>";
 
 const BEFORE_STYLE: &[u8] = b"</title>\n<style>\n";
 
-const STYLE: &[u8] = b":root { color-scheme: light dark; --line: #8888; --mark: #c60; --soft: #8882; }
+const STYLE: &[u8] =
+    b":root { color-scheme: light dark; --line: #8888; --mark: #c60; --soft: #8882; }
 body { font: 16px/1.5 system-ui, sans-serif; margin: 0 auto; max-width: 75rem; padding: 1rem; }
 h1 { font-size: 1.3rem; margin: 0 0 .5rem; overflow-wrap: anywhere; }
 h2 { font-size: 1.1rem; margin: 2rem 0 .5rem; border-bottom: 1px solid var(--line); }
@@ -53,7 +55,8 @@ const AFTER_STYLE: &[u8] = b"</style>\n</head>\n<body>\n<h1>";
 
 const AFTER_HEADING: &[u8] = b"</h1>\n";
 
-const BEFORE_ANSWER: &[u8] = b"<details id=\"answer\"><summary>The answer in full</summary>\n<pre class=\"answer\">";
+const BEFORE_ANSWER: &[u8] =
+    b"<details id=\"answer\"><summary>The answer in full</summary>\n<pre class=\"answer\">";
 
 const AFTER_ANSWER: &[u8] = b"</pre>\n</details>\n";
 
@@ -94,7 +97,15 @@ fn beginning(alloc: Global, title: &[u8], row: &[u8]) -> Result<Vec<u8>, AllocEr
     joined(
         alloc,
         &[
-            DOCTYPE, VIEWPORT, title, BEFORE_STYLE, STYLE, AFTER_STYLE, title, AFTER_HEADING, row,
+            DOCTYPE,
+            VIEWPORT,
+            title,
+            BEFORE_STYLE,
+            STYLE,
+            AFTER_STYLE,
+            title,
+            AFTER_HEADING,
+            row,
         ],
     )
 }

@@ -162,11 +162,7 @@ fn frame_text(alloc: Global, at: At, width: u64, height: u64) -> Result<Vec<u8>,
         ("\" width=\"", width),
         ("\" height=\"", height),
     ];
-    between(
-        alloc,
-        &parts,
-        "\" fill=\"none\" stroke=\"currentColor\"/>",
-    )
+    between(alloc, &parts, "\" fill=\"none\" stroke=\"currentColor\"/>")
 }
 
 /// The text of a line in a box.
@@ -178,11 +174,7 @@ fn rule_text(alloc: Global, at: At, right: u64) -> Result<Vec<u8>, AllocError>
         (" ", at.down),
         ("H", right),
     ];
-    between(
-        alloc,
-        &parts,
-        "\" fill=\"none\" stroke=\"currentColor\"/>",
-    )
+    between(alloc, &parts, "\" fill=\"none\" stroke=\"currentColor\"/>")
 }
 
 /// The text of a tag that begins a text at a place.
@@ -225,7 +217,11 @@ fn tip_text(alloc: Global, at: At, changed: bool, end: &str) -> Result<Vec<u8>, 
     ensures { IfOk result (λ text. text.items
         ≡ between ((head_text changed, at.across) ∷ (codes " ", at.down) ∷ []) end.now) }
 {
-    between(alloc, &[(head_text(changed), at.across), (" ", at.down)], end)
+    between(
+        alloc,
+        &[(head_text(changed), at.across), (" ", at.down)],
+        end,
+    )
 }
 
 /// The text of a tag.
