@@ -1,5 +1,5 @@
 -- What the requests of the program stand for.
-use Rattle.std.specs.Prelude.{ℕ, ◌<◌, Unit}
+use Rattle.std.specs.Prelude.{ℕ, ◌<◌}
 use Rattle.plc_view.specs.declared.words.Request.{Request as Asked}
 use Rattle.plc_view.specs.declared.words.Request.TheVariants as asked
 use Rattle.plc_view.specs.Requests.{Request, Page, Lines, Run}
