@@ -33,7 +33,8 @@ fn ended_page(
     reclaimer: &mut Box<dyn Reclaimer>,
 ) -> Result<Page, NoMemory>
     requires { CanBeReplayed recorded.judged.now recorded.schedule.now }
-    ensures { IfOk result (ShowsEnd pair.entry.title.now recorded.entry.judged.now (meanings reclaimer.old) recorded.entry.schedule.now) }
+    ensures { IfOk result (ShowsEnd pair.entry.title.now recorded.entry.judged.now (meanings reclaimer.old)
+        recorded.entry.schedule.now) }
 {
     let answer = answer_schedule(alloc, recorded, reclaimer)?;
     let (mut rest, here) = trace(alloc, recorded, reclaimer)?;
@@ -78,7 +79,8 @@ fn scheduled_page(
     reclaimer: &mut Box<dyn Reclaimer>,
 ) -> Result<Page, NoMemory>
     requires fits { FlowFits judged.now.flow }
-    ensures { IfOk result (ShowsSchedule pair.entry.title.now judged.now (meanings reclaimer.old) pair.entry.schedule.now) }
+    ensures { IfOk result (ShowsSchedule pair.entry.title.now judged.now (meanings reclaimer.old)
+        pair.entry.schedule.now) }
 {
     let schedule = match read_schedule(alloc, pair.schedule) {
         Ok(schedule) => schedule,
@@ -93,9 +95,9 @@ fn scheduled_page(
 }
 
 /// The page of a recorded run, by the bytes of a file and of a schedule: the badge and the sentence of what `replay`
-/// answers under this reclaimer, what is said of the last line, a row for each line, at most the last 300, what is there
-/// after it, the file, and the answer. A file or a
-/// schedule that is refused is shown with the refusal. `name` is the title. The one error is that memory runs out.
+/// answers under this reclaimer, what is said of the last line, a row for each line, at most the last 300, what is
+/// there after it, the file, and the answer. A file or a schedule that is refused is shown with the refusal. `name` is
+/// the title. The one error is that memory runs out.
 pub fn replay_page(
     alloc: Global,
     name: &[u8],

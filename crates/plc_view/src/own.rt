@@ -8,8 +8,8 @@ use crate::showing::show_under;
 use plc_cli::{ByList, Epoch, Files, Hazard, Leak, NO_MEMORY, Reclaimer, Sink};
 use std::alloc::{AllocError, Global};
 
-/// The status of `show_under` with these four. Each of them is a parameter, since it becomes a value of the trait in the
-/// call that hands it on, and what it acts as is known of its own type alone.
+/// The status of `show_under` with these four. Each of them is a parameter, since it becomes a value of the trait in
+/// the call that hands it on, and what it acts as is known of its own type alone.
 fn show_with<F: Files, S: Sink>(
     alloc: Global,
     words: &[String],
@@ -57,8 +57,8 @@ fn show_made<F: Files, S: Sink>(
 }
 
 /// All that the program does: the status, after the page or the lines were written. `words` are those after the
-/// program's name. A run is shown under `leak`, `list`, `hazard` or `epoch`, each of which acts as its row; where memory
-/// runs out for them it ends with 6, and nothing is read or written.
+/// program's name. A run is shown under `leak`, `list`, `hazard` or `epoch`, each of which acts as its row; where
+/// memory runs out for them it ends with 6, and nothing is read or written.
 pub fn show<F: Files, S: Sink>(alloc: Global, words: &[String], files: &mut F, out: &mut S) -> u8
     ensures { IsShowing (map string_bytes words.now)
         (F.known files.old) (F.known files.new) (S.known out.old) (S.known out.new) result }

@@ -84,7 +84,8 @@ struct Words<'a> {
 
 /// The title of the page of a run: its words.
 fn title_of(alloc: Global, words: Words) -> Result<Vec<u8>, NoMemory>
-    ensures { IfOk result (λ title. title.items ≡ title_of words.entry.file.now words.entry.schedule.now words.entry.name.now) }
+    ensures { IfOk result (λ title. title.items
+        ≡ title_of words.entry.file.now words.entry.schedule.now words.entry.name.now) }
 {
     let mut title = Vec::from_slice(alloc, words.file.as_bytes())?;
     title.extend_from_slice(b" ")?;
@@ -103,7 +104,8 @@ fn run_answer(
     reclaimer: &mut Box<dyn Reclaimer>,
 ) -> Result<Answer, NoMemory>
     requires { length bytes.now ≤ largest_file }
-    ensures { IfOk result (λ answer. ShowsReplay (title_of words.entry.file.now words.entry.schedule.now words.entry.name.now)
+    ensures { IfOk result (λ answer. ShowsReplay
+        (title_of words.entry.file.now words.entry.schedule.now words.entry.name.now)
         (meanings reclaimer.old) bytes.now second.now (page answer.status answer.text.items)) }
 {
     let title = title_of(alloc, words)?;
