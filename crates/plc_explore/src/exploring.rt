@@ -55,19 +55,21 @@ fn begin_and_walk(
     }
 }
 
-/// Draws a run. `None` comes where the program has no run, or none with a move.
+/// Draws the run of this number. `None` comes where the program has no run, or none with a move.
 fn draw(
     alloc: Global,
     program: &Program,
     frees: &mut Frees,
-    random: &mut Random,
+    seed: u32,
+    number: u32,
 ) -> Result<Option<Drawn>, NoMemory>
     requires { IsIndexed program.now }
 {
     if program.flow.file.ops.is_empty() {
         return Ok(None);
     }
-    let mut walker = Walker::new(alloc, random)?;
+    let mut random = Random::of_run(seed, number);
+    let mut walker = Walker::new(alloc, &mut random, number)?;
     let races = begin_and_walk(alloc, program, frees, &mut walker);
     let trail = walker.into_trail();
     match races {
@@ -94,18 +96,18 @@ fn explore_into(
     alloc: Global,
     program: &Program,
     frees: &mut Frees,
-    random: &mut Random,
-    most: u64,
+    seed: u32,
+    most: u32,
 ) -> Result<(), NoMemory>
     requires { IsIndexed program.now }
 {
-    for _ in 0..most {
-        match draw(alloc, program, frees, random) {
+    for number in 0..most {
+        match draw(alloc, program, frees, seed, number) {
             Ok(Some(drawn)) => explored.add(drawn),
             Ok(None) => return Ok(()),
             Err(fault) => return Err(fault),
         }
-        if explored.trail.is_some() || explored.moves >= most {
+        if explored.trail.is_some() || explored.moves >= u64::from(most) {
             return Ok(());
         }
     }
@@ -118,8 +120,8 @@ pub fn explore(
     alloc: Global,
     program: &Program,
     frees: &mut Frees,
-    random: &mut Random,
-    most: u64,
+    seed: u32,
+    most: u32,
 ) -> Result<Explored, NoMemory>
     requires { IsIndexed program.now }
 {
@@ -128,6 +130,6 @@ pub fn explore(
         runs: 0,
         moves: 0,
     };
-    explore_into(&mut explored, alloc, program, frees, random, most)?;
+    explore_into(&mut explored, alloc, program, frees, seed, most)?;
     Ok(explored)
 }

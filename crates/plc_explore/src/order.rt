@@ -1,7 +1,8 @@
-// Which thread moves next: always the first in an order that can. In one third of the runs the order changes at a few
-// moves that are drawn beforehand, so that a bug which needs few changes is met with a known chance (Burckhardt and
-// others, ASPLOS 2010); in another it changes after any move, with a chance that is drawn for the run; in the last one
-// before a thread writes, when what it has read may grow stale. Moves that no other thread can see aren't counted.
+// Which thread moves next: always the first in an order that can. The runs of a hunt take turns in when this order
+// changes, so that no seed decides which way is tried: at a few moves that are drawn beforehand, so that a bug which
+// needs few changes is met with a known chance (Burckhardt and others, ASPLOS 2010); after any move, with a chance that
+// is drawn for the run; before a thread writes, when what it has read may grow stale; and in most runs where a thread is
+// frozen (frozen.rt). Moves that no other thread can see aren't counted.
 use crate::random::Random;
 use plc_base::NoMemory;
 use std::alloc::Global;
@@ -15,6 +16,8 @@ enum Pace {
     Chance(u32),
     /// Before it writes, with one chance in so many.
     BeforeWrites(u32),
+    /// Where it is frozen: right before it uses an address that it holds, with one chance in so many.
+    Freezing(u32),
 }
 
 /// The threads of a run, the first one first.
@@ -48,15 +51,26 @@ fn drawn_points(alloc: Global, random: &mut Random) -> Result<Vec<u32>, NoMemory
     Ok(points)
 }
 
+/// When the order changes in the run of this number.
+fn drawn_pace(alloc: Global, random: &mut Random, number: u32) -> Result<Pace, NoMemory> {
+    Ok(match number % 8 {
+        0 => Pace::At(drawn_points(alloc, random)?),
+        1 => Pace::Chance(2 << random.below(4)),
+        2 => Pace::BeforeWrites(2 << random.below(3)),
+        _ => Pace::Freezing(4 << random.below(3)),
+    })
+}
+
 impl Order {
-    /// An order of so many threads, and when it changes, drawn.
-    pub fn draw(alloc: Global, random: &mut Random, threads: u32) -> Result<Order, NoMemory> {
+    /// An order of so many threads, and when it changes, drawn for the run of this number.
+    pub fn draw(
+        alloc: Global,
+        random: &mut Random,
+        threads: u32,
+        number: u32,
+    ) -> Result<Order, NoMemory> {
         let threads = drawn_order(alloc, random, threads)?;
-        let pace = match random.below(3) {
-            0 => Pace::At(drawn_points(alloc, random)?),
-            1 => Pace::Chance(2 << random.below(4)),
-            _ => Pace::BeforeWrites(2 << random.below(3)),
-        };
+        let pace = drawn_pace(alloc, random, number)?;
         Ok(Order {
             threads,
             pace,
@@ -79,7 +93,7 @@ impl Order {
         let now = match &self.pace {
             Pace::At(points) => points.contains(&self.moved),
             Pace::Chance(chance) => random.one_in(*chance),
-            Pace::BeforeWrites(_) => false,
+            Pace::BeforeWrites(_) | Pace::Freezing(_) => false,
         };
         now || random.one_in(PATIENCE)
     }
@@ -88,8 +102,27 @@ impl Order {
     pub fn waits(&self, random: &mut Random) -> bool {
         match &self.pace {
             Pace::BeforeWrites(chance) => random.one_in(*chance),
-            Pace::At(_) | Pace::Chance(_) => false,
+            Pace::At(_) | Pace::Chance(_) | Pace::Freezing(_) => false,
         }
+    }
+
+    /// Whether a thread is frozen that is about to use an address which it holds: before it writes as often as was
+    /// drawn, else a third as often.
+    pub fn freezes(&self, is_write: bool, random: &mut Random) -> bool {
+        match &self.pace {
+            Pace::Freezing(chance) => random.one_in(if is_write { 1 } else { 3 })
+                && random.one_in(*chance),
+            Pace::At(_) | Pace::Chance(_) | Pace::BeforeWrites(_) => false,
+        }
+    }
+
+    /// A thread goes to any place of the order.
+    pub fn reseat(&mut self, t: u32, random: &mut Random) -> Result<(), NoMemory> {
+        self.threads.retain(|other| *other != t);
+        let places = self.threads.len().min(64) as u32;
+        let at = random.below(places.saturating_add(1)) as usize;
+        self.threads.insert(at.min(self.threads.len()), t)?;
+        Ok(())
     }
 
     /// The thread at a place of the order goes to a place after the next one.
@@ -101,14 +134,6 @@ impl Order {
                 .saturating_add(random.below(later) as usize)
                 .saturating_add(1);
             self.threads.insert(at.min(self.threads.len()), t)?;
-        }
-        Ok(())
-    }
-
-    /// The thread at a place of the order has made a move that no other sees. It gives way after many of them.
-    pub fn passed(&mut self, k: usize, random: &mut Random) -> Result<(), NoMemory> {
-        if random.one_in(PATIENCE) {
-            self.give_way(k, random)?;
         }
         Ok(())
     }

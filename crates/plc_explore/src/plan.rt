@@ -2,6 +2,7 @@
 // numbers small, since most mistakes show among few threads, in few operations, on few nodes.
 ghost use Rattle.std.specs.Prelude.{◌<◌};
 
+use crate::program::Kind;
 use crate::random::Random;
 use plc_base::{Items, MOST_ADDRESSES, NoMemory};
 use std::alloc::Global;
@@ -11,6 +12,37 @@ const MOST_OPERATIONS: u32 = 5;
 
 /// The greatest number that an operation may be given.
 const GREATEST_NUMBER: u32 = 3;
+
+/// The most operations that come first, to make nodes.
+const MOST_FIRST: u32 = 3;
+
+/// The greatest `aim`.
+const MOST_AIM: u32 = 4;
+
+/// How often an operation of a kind that is wanted is looked for.
+const MOST_LOOKS: u32 = 8;
+
+/// Which operation is to begin.
+#[derive(Clone, Copy)]
+enum Wanted {
+    /// Any.
+    Any,
+    /// One that makes nodes.
+    Makes,
+    /// One that retires nodes.
+    Retires,
+}
+
+impl Wanted {
+    /// Whether an operation is such a one.
+    fn fits(self, kind: Kind) -> bool {
+        match self {
+            Wanted::Any => true,
+            Wanted::Makes => kind.makes,
+            Wanted::Retires => kind.retires,
+        }
+    }
+}
 
 /// What threads may do in a run, and the addresses of its nodes.
 #[derive(Drop)]
@@ -26,6 +58,10 @@ pub struct Plan {
     fresh: u32,
     /// The addresses that were retired and not freed since.
     retired: Vec<u32>,
+    /// So many operations that make nodes come first.
+    first: u32,
+    /// Of so many operations that come later all but one are of the kind that is wanted; 0 where none is.
+    aim: u32,
 }
 
 /// How many threads a run has: 2 in half of the runs, else mostly 3, at most 4.
@@ -58,6 +94,8 @@ impl Plan {
             freed: Vec::new(alloc),
             fresh: 2,
             retired: Vec::new(alloc),
+            first: random.below(MOST_FIRST + 1),
+            aim: random.below(MOST_AIM + 1),
         })
     }
 
@@ -78,6 +116,41 @@ impl Plan {
         if let Some(left) = self.left.get_mut(t as usize) {
             *left = left.saturating_sub(1);
         }
+    }
+
+    /// Which operation is to begin: at first those that make nodes; later often those that retire, and where a frozen
+    /// thread waits for an address that was retired, those that make nodes, so that it is used again.
+    fn wanted(&mut self, random: &mut Random, awaited: Option<u32>) -> Wanted {
+        if self.first > 0 {
+            self.first = self.first.saturating_sub(1);
+            return Wanted::Makes;
+        }
+        if self.aim == 0 || random.one_in(self.aim) {
+            return Wanted::Any;
+        }
+        match awaited {
+            Some(a) if self.retired.contains(&a) || self.freed.contains(&a) => Wanted::Makes,
+            _ => Wanted::Retires,
+        }
+    }
+
+    /// The number of the operation that begins next, among those of these kinds.
+    pub fn operation(&mut self, random: &mut Random, kinds: &[Kind], awaited: Option<u32>) -> u16 {
+        let wanted = self.wanted(random, awaited);
+        let count = kinds.len().min(65_535) as u32;
+        for _ in 0..MOST_LOOKS {
+            let k = random.below(count) as u16;
+            match kinds.get(k as usize) {
+                Some(kind) if wanted.fits(*kind) => return k,
+                _ => {}
+            }
+        }
+        random.below(count) as u16
+    }
+
+    /// Whether operations that make nodes still come first.
+    pub fn is_beginning(&self) -> bool {
+        self.first > 0
     }
 
     /// A number for an operation: mostly a small one, sometimes one of these or the one after it.

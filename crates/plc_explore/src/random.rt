@@ -1,4 +1,5 @@
-// The numbers by which runs are drawn. A seed determines all of them, so the same words give the same answer.
+// The numbers by which runs are drawn. Each run of a hunt has numbers of its own, which the seed of the hunt and the
+// number of the run determine: so the same words give the same answer, and no run rests on what came of the ones before.
 ghost use Rattle.std.specs.Prelude.{◌<◌, ◌≤◌};
 
 use rand_core::{Rng, SeedableRng};
@@ -11,10 +12,11 @@ pub struct Random {
 }
 
 impl Random {
-    /// The source that a seed determines.
-    pub fn new(seed: u64) -> Random {
+    /// The source from which the run of this number is drawn, in the hunt with this seed.
+    pub fn of_run(seed: u32, number: u32) -> Random {
+        let both = u64::from(seed) * 0x1_0000_0000 + u64::from(number);
         Random {
-            generator: Xoshiro256PlusPlus::seed_from_u64(seed),
+            generator: Xoshiro256PlusPlus::seed_from_u64(both),
         }
     }
 

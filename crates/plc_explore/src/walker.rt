@@ -1,9 +1,11 @@
 // A run that is drawn: threads move in an order that changes (order.rt), each by a move that is drawn among those that
-// it has, and after each move what may be freed is freed. The run ends at the first race, where no thread can move, or
-// where it grows too long.
+// it has, and after each move what may be freed is freed. A thread that took a side of `choose` moves on at once, since
+// no other sees that it did, and the side may be closed later. The run ends at the first race, where no thread can move,
+// or where it grows too long.
 ghost use Rattle.std.specs.Prelude.{◌<◌};
 ghost use Rattle.plc_explore.specs.Running.{IsIndexed, IsRunOf};
 
+use crate::frozen::{Fate, Frozen};
 use crate::order::Order;
 use crate::outlook::Outlook;
 use crate::plan::Plan;
@@ -13,12 +15,12 @@ use crate::running::{Running, retired_in};
 use crate::trail::Trail;
 use plc_base::{Items, NoMemory, OpId};
 use plc_flow::{Point, Step};
-use plc_lang::{Prim, Var, assigned, count_parameters, has_new};
+use plc_lang::{Prim, Var, assigned, count_parameters, has_new, risked};
 use plc_run::{Config, Moved};
-use plc_threads::Move;
+use plc_threads::{Move, Place};
 use std::alloc::Global;
 
-/// The most moves of a run that is drawn, frees aside.
+/// The most turns of threads in a run that is drawn.
 const LONGEST: u32 = 400;
 
 /// The most addresses that are freed after one move.
@@ -33,6 +35,10 @@ pub enum Turn {
     Passed,
     /// It gives way before it writes.
     Waits,
+    /// It is frozen before it uses an address.
+    Frozen,
+    /// None could move, and one that was frozen is so no more.
+    Thawed,
     /// Its move is a race, which ends the run.
     Raced,
     /// It has no move.
@@ -45,6 +51,10 @@ pub struct Walker<'a> {
     random: &'a mut Random,
     plan: Plan,
     order: Order,
+    frozen: Frozen,
+    /// The thread that moved last took a side, and hasn't gone on since.
+    is_inside: bool,
+    outlook: Outlook,
     moves: Items<Move>,
 }
 
@@ -57,14 +67,18 @@ fn is_exit(program: &Program, point: Point) -> bool {
 }
 
 impl<'a> Walker<'a> {
-    /// Who draws a run, with what is drawn before its first move.
-    pub fn new(alloc: Global, random: &'a mut Random) -> Result<Walker<'a>, NoMemory> {
+    /// Who draws the run of this number, with what is drawn before its first move.
+    pub fn new(alloc: Global, random: &'a mut Random, number: u32) -> Result<Walker<'a>, NoMemory> {
         let plan = Plan::draw(alloc, random)?;
-        let order = Order::draw(alloc, random, plan.threads())?;
+        let order = Order::draw(alloc, random, plan.threads(), number)?;
+        let frozen = Frozen::new(alloc, plan.threads())?;
         Ok(Walker {
             random,
             plan,
             order,
+            frozen,
+            is_inside: false,
+            outlook: Outlook::new(alloc),
             moves: Items::new(alloc),
         })
     }
@@ -91,7 +105,7 @@ impl<'a> Walker<'a> {
     {
         for _ in 0..LONGEST {
             match self.go(program, run) {
-                Ok(Turn::Went | Turn::Passed | Turn::Waits) => {}
+                Ok(Turn::Went | Turn::Passed | Turn::Waits | Turn::Frozen | Turn::Thawed) => {}
                 Ok(Turn::Raced) => return Ok(true),
                 Ok(Turn::Stuck) => return Ok(false),
                 Err(fault) => return Err(fault),
@@ -103,15 +117,30 @@ impl<'a> Walker<'a> {
     /// Changes the order after the turn of the thread at a place of it.
     fn went(&mut self, k: usize, turn: Turn) -> Result<Turn, NoMemory> {
         match turn {
-            Turn::Went => self.order.moved(k, self.random)?,
+            Turn::Went => {
+                self.is_inside = false;
+                self.frozen.moved(self.order.at(k));
+                self.order.moved(k, self.random)?;
+            }
             Turn::Waits => self.order.give_way(k, self.random)?,
-            Turn::Passed => self.order.passed(k, self.random)?,
-            Turn::Raced | Turn::Stuck => {}
+            Turn::Passed | Turn::Frozen | Turn::Thawed | Turn::Raced | Turn::Stuck => {}
         }
+        self.seat_thawed()?;
         Ok(turn)
     }
 
-    /// Lets the first thread move that can.
+    /// Gives each thread that was thawed a place of the order that is drawn.
+    fn seat_thawed(&mut self) -> Result<(), NoMemory> {
+        for _ in 0..self.order.len() {
+            match self.frozen.seat_one() {
+                Some(t) => self.order.reseat(t, self.random)?,
+                None => return Ok(()),
+            }
+        }
+        Ok(())
+    }
+
+    /// Lets the first thread move that can and isn't frozen. Where none can, one of the frozen threads is thawed.
     fn go(&mut self, program: &Program, run: &mut Running) -> Result<Turn, NoMemory>
         requires indexed { IsIndexed program.now }
         requires of_run { IsRunOf program.now run.old.config }
@@ -119,11 +148,17 @@ impl<'a> Walker<'a> {
     {
         for k in 0..self.order.len() {
             let t = self.order.at(k);
+            if self.frozen.holds(t) {
+                continue;
+            }
             match self.turn(program, run, t) {
                 Ok(Turn::Stuck) => {}
                 Ok(turn) => return self.went(k, turn),
                 Err(fault) => return Err(fault),
             }
+        }
+        if self.frozen.thaw_one(self.random) {
+            return self.went(0, Turn::Thawed);
         }
         Ok(Turn::Stuck)
     }
@@ -148,14 +183,14 @@ impl<'a> Walker<'a> {
         requires { IsRunOf program.now run.old.config }
         ensures { IsRunOf program.now run.new.config }
     {
-        let ops = program.flow.file.ops.as_slice();
-        let op = self.random.below(ops.len().min(65_535) as u32) as u16;
-        let Some(operation) = ops.get(op as usize) else {
-            return Ok(Turn::Stuck);
-        };
         if !self.plan.may_begin(t) {
             return Ok(Turn::Stuck);
         }
+        let awaited = self.frozen.awaited();
+        let op = self.plan.operation(self.random, program.kinds, awaited);
+        let Some(operation) = program.flow.file.ops.as_slice().get(op as usize) else {
+            return Ok(Turn::Stuck);
+        };
         self.plan.began(t);
         let count = count_parameters(operation);
         let args = self.plan.arguments(self.random, program.numbers, count)?;
@@ -180,18 +215,61 @@ impl<'a> Walker<'a> {
         let first = self.random.below(count);
         for k in 0..count {
             let nth = ((first as u64 + k as u64) % count as u64) as u16;
-            let Some(step) = program.steps.nth_step(program.flow, at, nth) else {
+            let Some(number) = program.steps.leaving(at).get(nth as usize) else {
                 continue;
             };
-            if count > 1 && !looks_open(program, &run.config, t, step) {
-                continue;
-            }
-            match self.take(program, run, t, nth, step) {
+            match self.try_step(program, run, t, nth, *number, count > 1) {
                 Ok(Turn::Stuck) => {}
                 taken => return taken,
             }
         }
         Ok(Turn::Stuck)
+    }
+
+    /// Takes the step of this number in the flow, if it can be taken, unless the thread stops before what it does
+    /// first. One of several is taken only where it looks as if it led on.
+    fn try_step(
+        &mut self,
+        program: &Program,
+        run: &mut Running,
+        t: u32,
+        nth: u16,
+        number: u16,
+        is_side: bool,
+    ) -> Result<Turn, NoMemory>
+        requires { IsRunOf program.now run.old.config }
+        ensures { IsRunOf program.now run.new.config }
+    {
+        let mut ahead = number;
+        if is_side {
+            match self.outlook.opening(program, &run.config, t, number) {
+                Ok(Some(opening)) => ahead = opening,
+                Ok(None) => return Ok(Turn::Stuck),
+                Err(fault) => return Err(fault),
+            }
+        }
+        match self.stops(program, &run.config, t, ahead) {
+            Some(turn) => Ok(turn),
+            None => self.take(program, run, t, nth, number, is_side),
+        }
+    }
+
+    /// Whether a thread stops before it takes the step of this number, and how. One that took a side doesn't.
+    fn stops(&mut self, program: &Program, config: &Config, t: u32, number: u16) -> Option<Turn> {
+        if self.is_inside || self.plan.is_beginning() {
+            return None;
+        }
+        let prims = program.flow.steps.get(number as usize)?.prims.as_slice();
+        let is_write = writes(prims);
+        if is_write && self.order.waits(self.random) {
+            return Some(Turn::Waits);
+        }
+        if !self.frozen.may_freeze(t) || !self.order.freezes(is_write, self.random) {
+            return None;
+        }
+        let a = held_by(config, t, prims, self.random)?;
+        self.frozen.freeze(t, a, self.random);
+        Some(Turn::Frozen)
     }
 
     /// Takes a step of a thread, if it can be taken.
@@ -201,17 +279,18 @@ impl<'a> Walker<'a> {
         run: &mut Running,
         t: u32,
         nth: u16,
-        step: &Step,
+        number: u16,
+        is_side: bool,
     ) -> Result<Turn, NoMemory>
         requires { IsRunOf program.now run.old.config }
         ensures { IsRunOf program.now run.new.config }
     {
-        if writes(step.prims.as_slice()) && self.order.waits(self.random) {
-            return Ok(Turn::Waits);
-        }
+        let Some(step) = program.flow.steps.get(number as usize) else {
+            return Ok(Turn::Stuck);
+        };
         let addr = self.address(step);
         match self.make(program, run, Move::Step { t, nth, addr }) {
-            Ok(Turn::Went) => Ok(self.took(addr, step)),
+            Ok(Turn::Went) => Ok(self.took(addr, step, is_side)),
             turn => turn,
         }
     }
@@ -226,11 +305,14 @@ impl<'a> Walker<'a> {
     }
 
     /// Notes that a step was taken with an address. One that does nothing is seen by no other thread.
-    fn took(&mut self, addr: Option<u32>, step: &Step) -> Turn {
-        match addr {
-            Some(a) => self.plan.used(a),
-            None if step.prims.is_empty() => return Turn::Passed,
-            None => {}
+    fn took(&mut self, addr: Option<u32>, step: &Step, is_side: bool) -> Turn {
+        if step.prims.is_empty() {
+            self.is_inside = self.is_inside || is_side;
+            return Turn::Passed;
+        }
+        if let Some(a) = addr {
+            self.plan.used(a);
+            self.frozen.happened(a, Fate::UsedAgain);
         }
         Turn::Went
     }
@@ -277,6 +359,7 @@ impl<'a> Walker<'a> {
         for event in config.history().iter().skip(before) {
             if let Some(a) = retired_in(event) {
                 self.plan.retire(a)?;
+                self.frozen.happened(a, Fate::Retired);
             }
         }
         Ok(())
@@ -285,6 +368,7 @@ impl<'a> Walker<'a> {
     /// Keeps the free of an address.
     fn freed(&mut self, a: u32) -> Result<(), NoMemory> {
         self.moves.push(Move::Free { a })?;
+        self.frozen.happened(a, Fate::Freed);
         self.plan.free(a)
     }
 
@@ -324,11 +408,43 @@ fn writes(prims: &[Prim]) -> bool {
     prims.iter().any(|prim| writes_shared(prim))
 }
 
-/// Whether a step of a thread looks as if it led on.
-fn looks_open(program: &Program, config: &Config, t: u32, step: &Step) -> bool {
-    let memory = config.memory();
-    match memory.locals(t) {
-        Some(me) => Outlook { memory, me, t }.is_open(program.flow, program.steps, step),
-        None => true,
+/// The pointers that a primitive uses: those by which it may be a race, and those that it stores or looks at again.
+fn used(prim: &Prim) -> (Option<Var>, Option<Var>) {
+    match *prim {
+        Prim::Copy {
+            p: Var::Shared(_),
+            q,
+        } => (Some(q), None),
+        Prim::Store { p, q, .. } | Prim::RefreshStore { p, q, .. } => (Some(p), Some(q)),
+        Prim::Refresh { p, .. } => (Some(Var::Local(p)), None),
+        Prim::RefreshLoad { p, q, .. } => (Some(Var::Local(p)), Some(q)),
+        _ => risked(prim),
     }
+}
+
+/// The address of a node that a pointer local of a thread holds, if the pointer is one.
+fn held_in(config: &Config, t: u32, var: Option<Var>) -> Option<u32> {
+    let Some(Var::Local(v)) = var else {
+        return None;
+    };
+    let number = config.memory().number(&Place::Local { t, v })?;
+    if number > 0 { Some(number) } else { None }
+}
+
+/// An address that one of the pointers holds which these primitives use, each with the same chance.
+fn held_by(config: &Config, t: u32, prims: &[Prim], random: &mut Random) -> Option<u32> {
+    let mut held = None;
+    let mut count = 0u32;
+    for prim in prims {
+        let (first, second) = used(prim);
+        for var in [first, second] {
+            if let Some(a) = held_in(config, t, var) {
+                count = count.saturating_add(1);
+                if random.one_in(count) {
+                    held = Some(a);
+                }
+            }
+        }
+    }
+    held
 }

@@ -6,13 +6,13 @@ ghost use Rattle.plc_explore.specs.Running.{IsIndexed};
 use plc_base::NoMemory;
 use plc_check::Judged;
 use plc_explore::{
-    Account, Frees, Program, Random, Trail, explore, follow_to_race, numbers_in, shorten,
+    Account, Frees, Program, Trail, explore, follow_to_race, kinds_in, numbers_in, shorten,
 };
 use plc_flow::StepsByPoint;
 use std::alloc::Global;
 
 /// How many moves are made at most, over all runs of a hunt.
-const MOST_MOVES: u64 = 40_000_000;
+const MOST_MOVES: u32 = 40_000_000;
 
 /// A run that was found, if one was, what is known of its race, and how much was tried.
 #[derive(Drop)]
@@ -55,8 +55,7 @@ fn hunt_program(
 ) -> Result<Quarry, NoMemory>
     requires { IsIndexed program.now }
 {
-    let mut random = Random::new(u64::from(seed));
-    let explored = explore(alloc, program, frees, &mut random, MOST_MOVES)?;
+    let explored = explore(alloc, program, frees, seed, MOST_MOVES)?;
     let (trail, account) = shortened(alloc, program, frees, explored.trail)?;
     Ok(Quarry {
         trail,
@@ -78,10 +77,12 @@ pub(crate) fn hunt_judged(
 {
     let steps = StepsByPoint::of_flow(alloc, &judged.flow)?;
     let numbers = numbers_in(alloc, &judged.flow)?;
+    let kinds = kinds_in(alloc, &judged.flow)?;
     let program = Program {
         flow: &judged.flow,
         steps: &steps,
         numbers: &numbers,
+        kinds: &kinds,
         observer: &judged.observer,
         schemes: judged.schemes.as_slice(),
     };
