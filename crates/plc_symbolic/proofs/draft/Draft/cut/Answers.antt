@@ -1,4 +1,4 @@
-use Rattle.std.proofs.Common.{All, sym, subst, ◌∙◌}
+use Rattle.std.proofs.Common.{All, take, sym, subst, ◌∙◌}
 use Rattle.plc_symbolic.specs.Tidy.{IsInside, read_draft}
 use Rattle.plc_symbolic.specs.Cuts.{IsWrittenAfter}
 use Rattle.plc_symbolic.proofs.Cutting.{inside_cut, draft_cut}
@@ -11,7 +11,7 @@ invariant_of-self c =
     let ts = c.self.inside.terms in
     let cs = c.self.inside.clauses in
     subst (All (All (IsInside c.cut.new.self))) (sym c.truncate.ensures)
-    (subst (λ us. All (All (IsInside us)) _) (sym c.cut.ensures)
+    (subst (λ us. All (All (IsInside us)) (take c.args.clauses cs)) (sym c.cut.ensures)
     (inside_cut ts cs c.self.invariant c.args.terms c.args.clauses e h))
 
 pub returns : goal.returns
