@@ -1,7 +1,8 @@
--- Words of private functions: a setting while its lists are made.
-use Rattle.std.specs.Prelude.{[], ◌++◌}
+-- Words of private functions: a setting while its lists are made, and acts before they are listed.
+use Rattle.std.specs.Prelude.{List, [], ◌∷◌, ◌++◌, Option, Some, None}
 use Rattle.plc_flow.specs.declared.flow.Flow.{Flow}
 use Rattle.plc_logic.specs.declared.clause.Outline.{Outline}
+use Rattle.plc_setting.specs.declared.acts.Act.{Act}
 use Rattle.plc_setting.specs.declared.obligations.Obligation.{Obligation}
 use Rattle.plc_setting.specs.declared.setting.Setting.{Setting}
 use Rattle.plc_setting.specs.declared.setting.Variables.{Variables}
@@ -23,3 +24,8 @@ no_nodes s = record s { pointers = []; constants = []; nodes = []; instances = [
 abbrev pub unlisted : Flow → Outline → Obligation → Setting
 unlisted flow outline o =
     record (without_nodes flow outline o) { mine = no_variables; theirs = no_variables; acts = [] }
+
+-- one act, or two in their order
+abbrev pub one_or_two : Act × Option Act → List Act
+one_or_two (a, None) = a ∷ []
+one_or_two (a, Some b) = a ∷ b ∷ []

@@ -1,15 +1,14 @@
 // What primitives do in ground sets, a row for each. A variable is named by the constant that it has at
 // first, and every other constant names itself, so the right sides need no type of their own.
-ghost use Rattle.std.specs.Prelude.{◌≡◌, ◌++◌, ◌∷◌, [], true, OnOk};
+ghost use Rattle.std.specs.Prelude.{◌≡◌, ◌++◌, true, OnOk};
 ghost use Rattle.plc_ground.specs.declared.terms.Map.TheVariants as maps;
-ghost use Rattle.plc_ground.specs.declared.terms.Symbol.TheVariants as symbols;
 ghost use Rattle.plc_lang.specs.Fit.{FileFits};
 ghost use Rattle.plc_lang.specs.WellSorted.{WriteIsWellSorted, IsWellSorted, AreWellSorted};
-ghost use Rattle.plc_setting.specs.declared.acts.Act.TheVariants.{Assign, Make, Fetch, FetchMarked, Update, Test};
-ghost use Rattle.plc_setting.specs.declared.acts.Act.TheVariants.{Differ};
+ghost use Rattle.plc_setting.specs.declared.acts.Act.TheVariants.{Assign, Fetch, Update, Test};
 ghost use Rattle.plc_setting.specs.Acts.{symbol_at, pointer_symbol, number_symbol, ghost_symbol, data_test, call_act};
 ghost use Rattle.plc_setting.specs.Acts.{mark_of, truth, assign_marked, store_marked, same_marked};
-ghost use Rattle.plc_setting.specs.Acts.{act_of, marked_acts, acts_of};
+ghost use Rattle.plc_setting.specs.Acts.{act_of, marked_acts, acts_of_primitive, acts_of};
+ghost use Rattle.plc_setting.specs.Unlisted.{one_or_two};
 
 use crate::setting::Variables;
 use plc_base::{FieldId, Items, NoMemory};
@@ -246,154 +245,110 @@ fn truth(is_set: bool) -> Symbol
     if is_set { Symbol::Yes } else { Symbol::No }
 }
 
-/// One more act.
-fn push(acts: &mut Items<Act>, act: Act) -> Result<(), NoMemory>
-    ensures { OnOk result (acts.new ≡ acts.old ++ act ∷ []) }
-{
-    acts.push(act)?;
-    Ok(())
-}
+/// One act, or two in their order.
+type Acts = (Act, Option<Act>);
 
 /// A variable gets a node and a mark.
-fn push_assign(
-    acts: &mut Items<Act>,
-    to: Symbol,
-    from: Symbol,
-    mark: Symbol,
-) -> Result<(), NoMemory>
-    ensures { OnOk result (acts.new ≡ acts.old ++ assign_marked to from mark) }
+fn assign_marked(to: Symbol, from: Symbol, mark: Symbol) -> Acts
+    ensures { one_or_two result ≡ assign_marked to from mark }
 {
-    push(acts, assign(mark_of(to), mark))?;
-    push(acts, assign(to, from))
+    (assign(mark_of(to), mark), Some(assign(to, from)))
 }
 
 /// A variable gets the node and the mark of another.
-fn push_copy(acts: &mut Items<Act>, to: Symbol, from: Symbol) -> Result<(), NoMemory>
-    ensures { OnOk result (acts.new ≡ acts.old ++ assign_marked to from (mark_of from)) }
+fn copy_marked(to: Symbol, from: Symbol) -> Acts
+    ensures { one_or_two result ≡ assign_marked to from (mark_of from) }
 {
-    push_assign(acts, to, from, mark_of(from))
-}
-
-/// A variable gets the new node, which is unmarked.
-fn push_make(acts: &mut Items<Act>, to: Symbol) -> Result<(), NoMemory>
-    ensures { OnOk result (acts.new ≡ acts.old ++ (Assign (mark_of to) symbols.No ∷ Make to ∷ [])) }
-{
-    push(acts, assign(mark_of(to), Symbol::No))?;
-    push(acts, Act::Make { to })
-}
-
-/// A variable gets the pointer that a field holds.
-fn push_fetch(acts: &mut Items<Act>, to: Symbol, node: Symbol, f: FieldId) -> Result<(), NoMemory>
-    ensures { OnOk result (acts.new ≡ acts.old ++ FetchMarked to node f ∷ []) }
-{
-    push(acts, Act::FetchMarked { to, node, f })
+    assign_marked(to, from, mark_of(from))
 }
 
 /// A field gets a node and a mark.
-fn push_store(
-    acts: &mut Items<Act>,
-    f: FieldId,
-    at: Symbol,
-    value: Symbol,
-    mark: Symbol,
-) -> Result<(), NoMemory>
-    ensures { OnOk result (acts.new ≡ acts.old ++ store_marked f at value mark) }
+fn store_marked(f: FieldId, at: Symbol, value: Symbol, mark: Symbol) -> Acts
+    ensures { one_or_two result ≡ store_marked f at value mark }
 {
-    push(acts, store(f, at, value))?;
-    push(
-        acts,
-        Act::Update {
-            checked: false,
-            map: Map::FieldMark(f),
-            at,
-            value: mark,
-        },
-    )
-}
-
-/// A field gets the node and the mark of a variable.
-fn push_stored(acts: &mut Items<Act>, f: FieldId, at: Symbol, value: Symbol) -> Result<(), NoMemory>
-    ensures { OnOk result (acts.new ≡ acts.old ++ store_marked f at value (mark_of value)) }
-{
-    push_store(acts, f, at, value, mark_of(value))
+    let second = Act::Update {
+        checked: false,
+        map: Map::FieldMark(f),
+        at,
+        value: mark,
+    };
+    (store(f, at, value), Some(second))
 }
 
 /// Two variables are equal, in their nodes and in their marks.
-fn push_same(acts: &mut Items<Act>, left: Symbol, right: Symbol) -> Result<(), NoMemory>
-    ensures { OnOk result (acts.new ≡ acts.old ++ same_marked left right) }
+fn same_marked(left: Symbol, right: Symbol) -> Acts
+    ensures { one_or_two result ≡ same_marked left right }
 {
-    push(acts, test(left, right, true))?;
-    push(acts, test(mark_of(left), mark_of(right), true))
-}
-
-/// Two variables differ, in their nodes or in their marks.
-fn push_differ(acts: &mut Items<Act>, left: Symbol, right: Symbol) -> Result<(), NoMemory>
-    ensures { OnOk result (acts.new ≡ acts.old ++ Differ left right ∷ []) }
-{
-    push(acts, Act::Differ { left, right })
-}
-
-/// The mark of a variable is set, or isn't.
-fn push_marked_test(acts: &mut Items<Act>, p: Symbol, is_set: bool) -> Result<(), NoMemory>
-    ensures { OnOk result (acts.new ≡ acts.old ++ Test (mark_of p) (truth is_set) true ∷ []) }
-{
-    push(acts, test(mark_of(p), truth(is_set), true))
+    let marks = test(mark_of(left), mark_of(right), true);
+    (test(left, right, true), Some(marks))
 }
 
 /// What a primitive does in a program that uses marks.
-fn push_marked(
-    acts: &mut Items<Act>,
-    file: &File,
-    v: &Variables,
-    prim: &Prim,
-) -> Result<(), NoMemory>
+fn marked_acts(file: &File, v: &Variables, prim: &Prim) -> Acts
     requires fits { FileFits file.now }
     requires sorted { IsWellSorted file.now prim.now }
-    ensures { OnOk result (acts.new ≡ acts.old ++ marked_acts file.now.ghosts v.now prim.now) }
+    ensures { one_or_two result ≡ marked_acts file.now.ghosts v.now prim.now }
 {
     match *prim {
-        Prim::Null { p } => push_assign(acts, pointer_symbol(v, p), Symbol::Null, Symbol::No),
-        Prim::Copy { p, q } => push_copy(acts, pointer_symbol(v, p), pointer_symbol(v, q)),
-        Prim::New { p } => push_make(acts, pointer_symbol(v, p)),
+        Prim::Null { p } => assign_marked(pointer_symbol(v, p), Symbol::Null, Symbol::No),
+        Prim::Copy { p, q } => copy_marked(pointer_symbol(v, p), pointer_symbol(v, q)),
+        Prim::New { p } => {
+            let to = pointer_symbol(v, p);
+            (assign(mark_of(to), Symbol::No), Some(Act::Make { to }))
+        }
         Prim::Load { p, q, f } => {
-            push_fetch(acts, pointer_symbol(v, p), pointer_symbol(v, q), f)
+            let (to, node) = (pointer_symbol(v, p), pointer_symbol(v, q));
+            (Act::FetchMarked { to, node, f }, None)
         }
         Prim::Store { p, f, q } | Prim::RefreshStore { p, f, q } => {
-            push_stored(acts, f, pointer_symbol(v, p), pointer_symbol(v, q))
+            let value = pointer_symbol(v, q);
+            store_marked(f, pointer_symbol(v, p), value, mark_of(value))
         }
         Prim::StoreNull { p, f } => {
-            push_store(acts, f, pointer_symbol(v, p), Symbol::Null, Symbol::No)
+            store_marked(f, pointer_symbol(v, p), Symbol::Null, Symbol::No)
         }
-        Prim::Eq { p, q } => push_same(acts, pointer_symbol(v, p), pointer_symbol(v, q)),
-        Prim::Ne { p, q } => push_differ(acts, pointer_symbol(v, p), pointer_symbol(v, q)),
-        Prim::Refresh { p, q } => {
-            push_copy(acts, symbol_at(&v.pointers, p), pointer_symbol(v, q))
+        Prim::Eq { p, q } => same_marked(pointer_symbol(v, p), pointer_symbol(v, q)),
+        Prim::Ne { p, q } => {
+            let (left, right) = (pointer_symbol(v, p), pointer_symbol(v, q));
+            (Act::Differ { left, right }, None)
         }
+        Prim::Refresh { p, q } => copy_marked(symbol_at(&v.pointers, p), pointer_symbol(v, q)),
         Prim::RefreshLoad { p, q, f } => {
-            push_fetch(acts, symbol_at(&v.pointers, p), pointer_symbol(v, q), f)
+            let (to, node) = (symbol_at(&v.pointers, p), pointer_symbol(v, q));
+            (Act::FetchMarked { to, node, f }, None)
         }
         Prim::Mark { p, q } => {
-            push_assign(
-                acts,
-                pointer_symbol(v, p),
-                pointer_symbol(v, q),
-                Symbol::Yes,
-            )
+            assign_marked(pointer_symbol(v, p), pointer_symbol(v, q), Symbol::Yes)
         }
         Prim::Unmark { p, q } => {
-            push_assign(acts, pointer_symbol(v, p), pointer_symbol(v, q), Symbol::No)
+            assign_marked(pointer_symbol(v, p), pointer_symbol(v, q), Symbol::No)
         }
-        Prim::MarkTest { p, yes } => push_marked_test(acts, pointer_symbol(v, p), yes),
+        Prim::MarkTest { p, yes } => {
+            let mark = mark_of(pointer_symbol(v, p));
+            (test(mark, truth(yes), true), None)
+        }
         Prim::DataSet { .. } | Prim::DataLoad { .. } | Prim::DataStore { .. } => {
-            push(acts, act_of(file, v, prim))
+            (act_of(file, v, prim), None)
         }
         Prim::IsNull { .. } | Prim::NotNull { .. } | Prim::DataTest { .. } => {
-            push(acts, act_of(file, v, prim))
+            (act_of(file, v, prim), None)
         }
         Prim::Call { .. } | Prim::Done { .. } | Prim::Active { .. } | Prim::Ghost { .. } => {
-            push(acts, act_of(file, v, prim))
+            (act_of(file, v, prim), None)
         }
     }
+}
+
+/// What a primitive does, where it is known whether the program uses marks.
+fn acts_of(marked: bool, file: &File, v: &Variables, prim: &Prim) -> Acts
+    requires fits { FileFits file.now }
+    requires sorted { IsWellSorted file.now prim.now }
+    ensures { one_or_two result ≡ acts_of_primitive marked file.now.ghosts v.now prim.now }
+{
+    if marked {
+        return marked_acts(file, v, prim);
+    }
+    (act_of(file, v, prim), None)
 }
 
 /// Lists what primitives do, in their order, where it is known whether the program uses marks.
@@ -409,10 +364,10 @@ pub fn push_acts(
     ensures { OnOk result (acts.new ≡ acts.old ++ acts_of marked file.now.ghosts variables.now prims.now) }
 {
     for prim in prims {
-        if marked {
-            push_marked(acts, file, variables, prim)?;
-        } else {
-            acts.push(act_of(file, variables, prim))?;
+        let (first, second) = acts_of(marked, file, variables, prim);
+        acts.push(first)?;
+        if let Some(second) = second {
+            acts.push(second)?;
         }
     }
     Ok(())
