@@ -8,7 +8,6 @@ use Rattle.plc_lex.specs.declared.token.TokenKind.{TokenKind}
 use Rattle.plc_lex.specs.declared.token.TokenKind.TheVariants.{Word, Name, Symbol}
 use Rattle.plc_lex.specs.declared.token.Keyword.TheVariants.{At}
 use Rattle.plc_lex.specs.declared.token.Symbol.TheVariants.{OpenBrace, CloseBrace, Dot}
-use Rattle.plc_syntax.specs.Trees.{each_then}
 use Rattle.plc_lang.specs.Names.{label_name, pointer_name}
 use Rattle.plc_flow.specs.declared.flow.Flow.{Flow}
 use Rattle.plc_auto.specs.declared.observer.Observer.{Observer}
@@ -17,7 +16,7 @@ use Rattle.plc_at.specs.declared.claim.LocationClaim.{LocationClaim}
 use Rattle.plc_at.specs.declared.reading.Due.{Due}
 use Rattle.plc_at.specs.declared.reading.Due.TheVariants as due
 use Rattle.plc_at.specs.Claims.{locals_by_label, Written, NamesWhatIsThere, before_dot, after_dot, dot_then}
-use Rattle.plc_at.specs.Claims.{location_then, claims_tokens, located, SpellClaims, ClaimFits}
+use Rattle.plc_at.specs.Claims.{each_then, location_then, claims_tokens, located, SpellClaims, ClaimFits}
 use Rattle.plc_at.specs.Reading.{IsPointerAt, HasPointers, IsLabelNamed, AreNamed, location_name, BeginsWith}
 use Rattle.plc_at.specs.Reading.{HasParts, with_location, with_locations, EndClaim, OpenClaim, MayGoOn, HasSecondPart}
 use Rattle.plc_at.specs.Reading.{Advances}

@@ -8,7 +8,6 @@ use Rattle.plc_lex.specs.declared.token.TokenKind.{TokenKind}
 use Rattle.plc_lex.specs.declared.token.TokenKind.TheVariants.{Word, Name, Symbol}
 use Rattle.plc_lex.specs.declared.token.Keyword.TheVariants.{At}
 use Rattle.plc_lex.specs.declared.token.Symbol.TheVariants.{OpenBrace, CloseBrace, Dot}
-use Rattle.plc_syntax.specs.Trees.{each_then}
 use Rattle.plc_lang.specs.declared.syntax.Local.{Local}
 use Rattle.plc_lang.specs.Labels.{labels_by_op, op_of_label}
 use Rattle.plc_lang.specs.Locals.{is_pointer, locals_of}
@@ -56,6 +55,11 @@ before_dot (b ∷ bs) = if b == 46 then [] else b ∷ before_dot bs
 abbrev pub after_dot : List ℕ → Option (List ℕ)
 after_dot [] = None
 after_dot (b ∷ bs) = if b == 46 then Some bs else after_dot bs
+
+-- { x }*
+abbrev pub each_then : {A : Type 0} → (A → List TokenKind → List TokenKind) → List A → List TokenKind → List TokenKind
+each_then x_then [] rest = rest
+each_then x_then (x ∷ xs) rest = x_then x (each_then x_then xs rest)
 
 -- [ "." NAME ]
 abbrev pub dot_then : Option (List ℕ) → List TokenKind → List TokenKind

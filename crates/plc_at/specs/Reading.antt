@@ -7,7 +7,6 @@ use Rattle.plc_lex.specs.declared.token.TokenKind.{TokenKind}
 use Rattle.plc_lex.specs.declared.token.TokenKind.TheVariants.{Word, Name, Symbol}
 use Rattle.plc_lex.specs.declared.token.Keyword.TheVariants.{At}
 use Rattle.plc_lex.specs.declared.token.Symbol.TheVariants.{OpenBrace, CloseBrace, Dot}
-use Rattle.plc_syntax.specs.Trees.{each_then}
 use Rattle.plc_lang.specs.declared.syntax.Local.{Local}
 use Rattle.plc_lang.specs.declared.syntax.File.{File}
 use Rattle.plc_lang.specs.Labels.{labels_by_op, op_of_label}
@@ -20,7 +19,7 @@ use Rattle.plc_at.specs.declared.claim.LocationClaim.{LocationClaim}
 use Rattle.plc_at.specs.declared.reading.Due.{Due}
 use Rattle.plc_at.specs.declared.reading.Due.TheVariants as due
 use Rattle.plc_at.specs.Claims.{locals_by_label, pointers_by_label, Written, NamesWhatIsThere, before_dot, after_dot}
-use Rattle.plc_at.specs.Claims.{location_then, claims_tokens, located, SpellClaims, ClaimFits}
+use Rattle.plc_at.specs.Claims.{each_then, location_then, claims_tokens, located, SpellClaims, ClaimFits}
 
 -- ---- tables of names
 

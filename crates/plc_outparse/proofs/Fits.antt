@@ -14,7 +14,7 @@ use Rattle.plc_base.specs.declared.ids.FieldId.{FieldId}
 use Rattle.plc_lang.specs.declared.syntax.Local.{Local}
 use Rattle.plc_lang.specs.declared.syntax.Op.{Op}
 use Rattle.plc_lang.specs.declared.syntax.File.{File}
-use Rattle.plc_syntax.specs.Trees.{Text, PlaceOf, TermTree, PlaceTerm, NullTerm, NumberTerm, MeTerm, NoneTerm, PlaceTree, FlagTree, RetiredFlag, MarkedFlag, LiteralTree, FlagLiteral, NotLiteral, EqualityLiteral, BoundTree, NoBound, AllOf, ClauseTree, Claims, ItemTree, InvariantItem, OverItem, AtItem, OutlineTree, Outlined}
+use Rattle.plc_syntax.specs.Trees.{Text, Placed, PlaceOf, TermTree, PlaceTerm, NullTerm, NumberTerm, MeTerm, NoneTerm, PlaceTree, FlagTree, RetiredFlag, MarkedFlag, LiteralTree, FlagLiteral, NotLiteral, EqualityLiteral, BoundTree, NoBound, AllOf, ClauseTree, Claims, ItemTree, InvariantItem, OverItem, AtItem, OutlineTree, Outlined}
 use Rattle.plc_scope.specs.declared.fault.ParseFault.{ParseFault}
 use Rattle.plc_scope.specs.declared.fault.ParseFault.TheVariants as faults
 use Rattle.plc_scope.specs.declared.scope.Scope.{Scope}
@@ -41,11 +41,10 @@ use Rattle.plc_lang.specs.Labels.{block_labels, labels_by_op, has_label, op_of_l
 use Rattle.plc_outparse.specs.declared.kind.Kind.{Kind}
 use Rattle.plc_outparse.specs.declared.kind.Kind.TheVariants as kinds
 use Rattle.plc_outparse.specs.Fit.{holds_threads, NamesOf, OutlinesFit}
-use Rattle.plc_outparse.specs.Reach.{Reach, auxiliary_sort, binding_kind, local_kind, kind_found, declared_kind, kind_or_bound, kind_of, as_base, base_at, base_term, base_pointer, as_pointer, as_term, as_field, field_pointer, as_pointer_field}
-use Rattle.plc_outparse.specs.Sizes.{term_size, literal_size, bound_size, depth_size}
+use Rattle.plc_outparse.specs.Reach.{Reach, auxiliary_sort, binding_kind, local_kind, kind_found, declared_kind, kind_or_bound, kind_of, kind_at, as_base, base_at, base_term, base_pointer, as_pointer, as_term, as_field, field_pointer, as_pointer_field}
 use Rattle.plc_scope.specs.Limits.{stands_at}
 use Rattle.plc_lang.specs.Locals.{locals_or_none, locals_of}
-use Rattle.plc_outparse.specs.Meaning.{in_turn, me_means, term_means, sort_place, second_means, pointer_means, flag_means, literal_means, counted, Literals, literal_step, none_bound, if_free, bound_with, second_bound, bound_means, reach, clause_means, clause_line_means, op_named, op_at, label_named, with_op, label_at, if_same_op, Labels, label_step, labels_mean, Parts, with_invariant, with_item, item_step, depth_means, outline_means}
+use Rattle.plc_outparse.specs.Meaning.{in_turn, me_means, term_means, sort_place, second_means, pointer_means, flag_means, literal_means, counted, literal_step, none_bound, if_free, bound_with, second_bound, bound_means, reach, clause_means, op_named, op_at, label_named, with_op, label_at, if_same_op, label_step, labels_mean, Parts, with_item, item_step, depth_means, outline_means}
 
 fitting : {A : Type 0} (P : A → Type 0) (at : ℕ) (o : Option A) → IfSome o P → Has P (if_fits at o)
 fitting P at (Some x) h = h
@@ -121,9 +120,12 @@ module _ (file : File) (r : Reach) (names : NamesOf r.scope file) where
   base_fits (kinds.Value g v) h = tt
   base_fits kinds.NoValue h = tt
 
-  base_is_node : (name : Text) (at : ℕ) → Has (IsNode w) (base_at r name at)
+  kind_is_fit : (n : Placed Text) → Has (KindFits w) (kind_at r n)
+  kind_is_fit n = known_has (KindFits w) n.at (kind_of r n.value) (kind_fits n.value)
+
+  base_is_node : (n : Placed Text) → Has (IsNode w) (base_at r n)
   unfolding base_at
-  base_is_node name at = next (KindFits w) (IsNode w) (known at (kind_of r name)) _ (known_has (KindFits w) at (kind_of r name) (kind_fits name)) (λ k h. fitting (IsNode w) at (as_base k) (base_fits k h))
+  base_is_node n = next (KindFits w) (IsNode w) (kind_at r n) _ (kind_is_fit n) (λ k h. fitting (IsNode w) n.at (as_base k) (base_fits k h))
 
   -- ---- terms
 
@@ -156,25 +158,25 @@ module _ (file : File) (r : Reach) (names : NamesOf r.scope file) where
   me_sorted true at e = (e, refl)
   me_sorted false at e = tt
 
-  term_sorted : (at : ℕ) (t : TermTree) → Has Sorted (term_means r at t)
+  term_sorted : (t : TermTree) → Has Sorted (term_means r t)
   unfolding term_means
-  term_sorted at (PlaceTerm (PlaceOf n None)) =
-      next (KindFits w) Sorted (known at (kind_of r n)) _ (known_has (KindFits w) at (kind_of r n) (kind_fits n)) (λ k h. fitting Sorted at (as_term k) (alone_sorted k h))
-  term_sorted at (PlaceTerm (PlaceOf n (Some f))) =
-      next (IsNode w) Sorted (base_at r n at) _ (base_is_node n at) (λ b node.
-      next (KindFits w) Sorted (known (at + 2) (kind_of r f)) _ (known_has (KindFits w) (at + 2) (kind_of r f) (kind_fits f)) (λ k h. fitting Sorted (at + 2) (as_field b k) (field_sorted b k node h)))
-  term_sorted at NullTerm = refl
-  term_sorted at (NumberTerm n) = refl
-  term_sorted at MeTerm = me_sorted r.in_operation at refl
-  term_sorted at NoneTerm = refl
+  term_sorted (PlaceTerm (PlaceOf n None)) =
+      next (KindFits w) Sorted (kind_at r n) _ (kind_is_fit n) (λ k h. fitting Sorted n.at (as_term k) (alone_sorted k h))
+  term_sorted (PlaceTerm (PlaceOf n (Some f))) =
+      next (IsNode w) Sorted (base_at r n) _ (base_is_node n) (λ b node.
+      next (KindFits w) Sorted (kind_at r f) _ (kind_is_fit f) (λ k h. fitting Sorted f.at (as_field b k) (field_sorted b k node h)))
+  term_sorted (NullTerm at) = refl
+  term_sorted (NumberTerm n) = refl
+  term_sorted (MeTerm at) = me_sorted r.in_operation at refl
+  term_sorted (NoneTerm at) = refl
 
   if_sorted : (wanted : Sort) (at : ℕ) (t : Term × Sort) (b : Bool) → same_sort t.1 wanted ≡ b → Sorted t → Has (λ x. HasSort w x wanted) (if b then Ok t.0 else Err (faults.WrongSort at))
   if_sorted wanted at t true e h = subst (HasSort w t.0) (same_sort_true t.1 wanted e) h
   if_sorted wanted at t false e h = tt
 
-  second_sorted : (wanted : Sort) (at : ℕ) (t : TermTree) → Has (λ x. HasSort w x wanted) (second_means r wanted at t)
+  second_sorted : (wanted : Sort) (t : TermTree) → Has (λ x. HasSort w x wanted) (second_means r wanted t)
   unfolding second_means
-  second_sorted wanted at t = next Sorted (λ x. HasSort w x wanted) (term_means r at t) _ (term_sorted at t) (λ x h. if_sorted wanted (sort_place at t) x (same_sort x.1 wanted) refl h)
+  second_sorted wanted t = next Sorted (λ x. HasSort w x wanted) (term_means r t) _ (term_sorted t) (λ x h. if_sorted wanted (sort_place t) x (same_sort x.1 wanted) refl h)
 
   -- ---- literals
 
@@ -211,30 +213,27 @@ module _ (file : File) (r : Reach) (names : NamesOf r.scope file) where
   field_holds b (kinds.Value g v) n h = tt
   field_holds b kinds.NoValue n h = tt
 
-  pointer_holds : (at : ℕ) (p : PlaceTree) → Has (HoldsPointer w) (pointer_means r at p)
-  pointer_holds at (PlaceOf n None) =
-      next (KindFits w) (HoldsPointer w) (known at (kind_of r n)) _
-      (known_has (KindFits w) at (kind_of r n) (kind_fits n))
-      (λ k h. fitting (HoldsPointer w) at (as_pointer k) (alone_holds k h))
-  pointer_holds at (PlaceOf n (Some f)) =
-      next (IsNode w) (HoldsPointer w) (base_at r n at) _ (base_is_node n at) (λ b node.
-      next (KindFits w) (HoldsPointer w) (known (at + 2) (kind_of r f)) _
-      (known_has (KindFits w) (at + 2) (kind_of r f) (kind_fits f))
-      (λ k h. fitting (HoldsPointer w) (at + 2) (as_pointer_field b k) (field_holds b k node h)))
+  pointer_holds : (p : PlaceTree) → Has (HoldsPointer w) (pointer_means r p)
+  pointer_holds (PlaceOf n None) =
+      next (KindFits w) (HoldsPointer w) (kind_at r n) _ (kind_is_fit n)
+      (λ k h. fitting (HoldsPointer w) n.at (as_pointer k) (alone_holds k h))
+  pointer_holds (PlaceOf n (Some f)) =
+      next (IsNode w) (HoldsPointer w) (base_at r n) _ (base_is_node n) (λ b node.
+      next (KindFits w) (HoldsPointer w) (kind_at r f) _ (kind_is_fit f)
+      (λ k h. fitting (HoldsPointer w) f.at (as_pointer_field b k) (field_holds b k node h)))
 
-  flag_fits : (is_so : Bool) (at : ℕ) (f : FlagTree) → Has (LiteralFits w) (flag_means r is_so at f)
-  flag_fits is_so at (RetiredFlag n) =
-      next (IsNode w) (LiteralFits w) (base_at r n (at + 2)) _ (base_is_node n (at + 2)) (λ b h. h)
-  flag_fits is_so at (MarkedFlag p) =
-      next (HoldsPointer w) (LiteralFits w) (pointer_means r (at + 2) p) _ (pointer_holds (at + 2) p) (λ t h. h)
+  flag_fits : (is_so : Bool) (f : FlagTree) → Has (LiteralFits w) (flag_means r is_so f)
+  flag_fits is_so (RetiredFlag n) = next (IsNode w) (LiteralFits w) (base_at r n) _ (base_is_node n) (λ b h. h)
+  flag_fits is_so (MarkedFlag p) =
+      next (HoldsPointer w) (LiteralFits w) (pointer_means r p) _ (pointer_holds p) (λ t h. h)
 
-  literal_fits : (at : ℕ) (l : LiteralTree) → Has (LiteralFits w) (literal_means r at l)
+  literal_fits : (l : LiteralTree) → Has (LiteralFits w) (literal_means r l)
   unfolding literal_means
-  literal_fits at (FlagLiteral f) = flag_fits true at f
-  literal_fits at (NotLiteral f) = flag_fits false (at + 1) f
-  literal_fits at (EqualityLiteral a e b) =
-      next Sorted (LiteralFits w) (term_means r at a) _ (term_sorted at a) (λ x h.
-      next (λ y. HasSort w y x.1) (LiteralFits w) (second_means r x.1 (at + term_size a + 1) b) _ (second_sorted x.1 (at + term_size a + 1) b) (λ y k. (x.1, h, k)))
+  literal_fits (FlagLiteral f) = flag_fits true f
+  literal_fits (NotLiteral f) = flag_fits false f
+  literal_fits (EqualityLiteral a e b) =
+      next Sorted (LiteralFits w) (term_means r a) _ (term_sorted a) (λ x h.
+      next (λ y. HasSort w y x.1) (LiteralFits w) (second_means r x.1 b) _ (second_sorted x.1 b) (λ y k. (x.1, h, k)))
 
   record CountedFits (n : ℕ) (l : Literal) : Type 0 where
     fewer : n < most limits.Literals
@@ -249,19 +248,19 @@ module _ (file : File) (r : Reach) (names : NamesOf r.scope file) where
   counted_fits n at (Ok l) le h = below (CountedFits n) n (most limits.Literals) _ (Ok l) le (λ less. record { fewer = less; fits = h })
   counted_fits n at (Err e) le h = no_literal n (stands_at at e) (n == most limits.Literals) _ _ _
 
-  record LiteralsFit (s : Literals) : Type 0 where
-    some : 0 < length s.0
-    count : length s.0 ≤ most limits.Literals
-    each : All (LiteralFits w) s.0
+  record LiteralsFit (ls : List Literal) : Type 0 where
+    some : 0 < length ls
+    count : length ls ≤ most limits.Literals
+    each : All (LiteralFits w) ls
 
-  step_fits : (s : Literals) (l : LiteralTree) → LiteralsFit s → Has LiteralsFit (literal_step r s l)
+  step_fits : (ls : List Literal) (l : Placed LiteralTree) → LiteralsFit ls → Has LiteralsFit (literal_step r ls l)
   unfolding literal_step
-  step_fits s l h = next (CountedFits (length s.0)) LiteralsFit (counted (length s.0) (s.1 + 1) (literal_means r (s.1 + 1) l)) _ (counted_fits (length s.0) (s.1 + 1) (literal_means r (s.1 + 1) l) h.count (literal_fits (s.1 + 1) l)) (λ x k.
-      let count = length-append s.0 (x ∷ []) in
-      record { some = omega arith; count = omega (arith, k.fewer); each = All-append (LiteralFits w) s.0 (x ∷ []) h.each (All-cons (LiteralFits w) x [] k.fits (All-nil (LiteralFits w))) })
+  step_fits ls l h = next (CountedFits (length ls)) LiteralsFit (counted (length ls) l.at (literal_means r l.value)) _ (counted_fits (length ls) l.at (literal_means r l.value) h.count (literal_fits l.value)) (λ x k.
+      let count = length-append ls (x ∷ []) in
+      record { some = omega arith; count = omega (arith, k.fewer); each = All-append (LiteralFits w) ls (x ∷ []) h.each (All-cons (LiteralFits w) x [] k.fits (All-nil (LiteralFits w))) })
 
-  first_fits : (x : Literal) (at : ℕ) → LiteralFits w x → LiteralsFit (x ∷ [], at)
-  first_fits x at h = record { some = omega arith; count = omega arith; each = All-cons (LiteralFits w) x [] h (All-nil (LiteralFits w)) }
+  first_fits : (x : Literal) → LiteralFits w x → LiteralsFit (x ∷ [])
+  first_fits x h = record { some = omega arith; count = omega arith; each = All-cons (LiteralFits w) x [] h (All-nil (LiteralFits w)) }
 
 -- ---- clauses
 
@@ -277,33 +276,29 @@ free_bound : (n at : ℕ) (bound : NameList) (name : Text) (k : Option Kind) →
 free_bound n at bound name None h = new_bound n at bound name (place_of name bound.names) h
 free_bound n at bound name (Some k) h = tt
 
-bound_few : (s : Scope) (ls : List Local) (n at : ℕ) (bound : NameList) (name : Text) → AtMost n bound → Has (AtMost (n + 1)) (bound_with s ls bound at name)
+bound_few : (s : Scope) (ls : List Local) (n : ℕ) (bound : NameList) (name : Placed Text) → AtMost n bound → Has (AtMost (n + 1)) (bound_with s ls bound name)
 unfolding bound_with
-bound_few s ls n at bound name h = free_bound n at bound name (declared_kind s ls name) h
+bound_few s ls n bound name h = free_bound n name.at bound name.value (declared_kind s ls name.value) h
 
-second_few : (s : Scope) (ls : List Local) (at : ℕ) (bound : NameList) (m : Option Text) → AtMost 1 bound → Has (AtMost 2) (second_bound s ls bound at m)
-second_few s ls at bound None h = omega arith
-second_few s ls at bound (Some m) h = bound_few s ls 1 at bound m h
+second_few : (s : Scope) (ls : List Local) (bound : NameList) (m : Option (Placed Text)) → AtMost 1 bound → Has (AtMost 2) (second_bound s ls bound m)
+second_few s ls bound None h = omega arith
+second_few s ls bound (Some m) h = bound_few s ls 1 bound m h
 
-all_bound_few : (s : Scope) (ls : List Local) (at : ℕ) (b : BoundTree) → Has (AtMost 2) (bound_means s ls at b)
+all_bound_few : (s : Scope) (ls : List Local) (b : BoundTree) → Has (AtMost 2) (bound_means s ls b)
 unfolding bound_means
-all_bound_few s ls at NoBound = omega arith
-all_bound_few s ls at (AllOf n m) = next (AtMost 1) (AtMost 2) (bound_with s ls none_bound (at + 1) n) _ (bound_few s ls 0 (at + 1) none_bound n (omega arith)) (λ bound h. second_few s ls (at + 3) bound m h)
+all_bound_few s ls NoBound = omega arith
+all_bound_few s ls (AllOf n m) = next (AtMost 1) (AtMost 2) (bound_with s ls none_bound n) _ (bound_few s ls 0 none_bound n (omega arith)) (λ bound h. second_few s ls bound m h)
 
 module _ (file : File) (s : Scope) (names : NamesOf s file) where
-  clause_fits : (ls : List Local) (in_operation : Bool) (at : ℕ) (c : ClauseTree) → Has (λ x. ClauseFits file ls in_operation x.0) (clause_means s ls in_operation at c)
+  clause_fits : (ls : List Local) (in_operation : Bool) (c : ClauseTree) → Has (ClauseFits file ls in_operation) (clause_means s ls in_operation c)
   unfolding clause_means
-  clause_fits ls in_operation at (Claims b l others) =
-      next (AtMost 2) (λ x. ClauseFits file ls in_operation x.0) (bound_means s ls at b) _ (all_bound_few s ls at b) (λ bound few.
+  clause_fits ls in_operation (Claims b l others) =
+      next (AtMost 2) (ClauseFits file ls in_operation) (bound_means s ls b) _ (all_bound_few s ls b) (λ bound few.
       let here = reach s ls in_operation bound in
-      next (LiteralFits (words file here)) (λ x. ClauseFits file ls in_operation x.0) (literal_means here (at + bound_size b) l) _ (literal_fits file here names (at + bound_size b) l) (λ first fits.
-      next (LiteralsFit file here names) (λ x. ClauseFits file ls in_operation x.0) (in_turn (literal_step here) (first ∷ [], at + bound_size b + literal_size l) others) _
-      (turns (LiteralsFit file here names) (literal_step here) (step_fits file here names) (first ∷ [], at + bound_size b + literal_size l) others (first_fits file here names first (at + bound_size b + literal_size l) fits)) (λ all h.
+      next (LiteralFits (words file here)) (ClauseFits file ls in_operation) (literal_means here l) _ (literal_fits file here names l) (λ first fits.
+      next (LiteralsFit file here names) (ClauseFits file ls in_operation) (in_turn (literal_step here) (first ∷ []) others) _
+      (turns (LiteralsFit file here names) (literal_step here) (step_fits file here names) (first ∷ []) others (first_fits file here names first fits)) (λ all h.
       record { bound = few; some = h.some; literals = h.count; each = h.each })))
-
-  line_fits : (ls : List Local) (in_operation : Bool) (at : ℕ) (c : ClauseTree) → Has (λ x. ClauseFits file ls in_operation x.0) (clause_line_means s ls in_operation at c)
-  unfolding clause_line_means
-  line_fits ls in_operation at c = next (λ x. ClauseFits file ls in_operation x.0) (λ x. ClauseFits file ls in_operation x.0) (clause_means s ls in_operation at c) _ (clause_fits ls in_operation at c) (λ k h. h)
 
   -- ---- sites
 
@@ -315,9 +310,9 @@ module _ (file : File) (s : Scope) (names : NamesOf s file) where
   named_op None = tt
   named_op (Some i) = IfSome_then (position_from (λ (o : Op). o.name == i) 0 file.ops) (position_passes (λ (o : Op). o.name == i) file.ops) (λ k at. (at.0, at.1))
 
-  op_is_there : (name : Text) (at : ℕ) → Has IsOp (op_at s file.ops name at)
+  op_is_there : (n : Placed Text) → Has IsOp (op_at s file.ops n)
   unfolding op_at
-  op_is_there name at = any IsOp (known at (declared_kind s [] name)) _ (λ k. fitting IsOp at (op_named file.ops (place_of name s.names.names)) (named_op (place_of name s.names.names)))
+  op_is_there n = any IsOp (known n.at (declared_kind s [] n.value)) _ (λ k. fitting IsOp n.at (op_named file.ops (place_of n.value s.names.names)) (named_op (place_of n.value s.names.names)))
 
   -- an operation whose statements have a label is there
   home : (label i : ℕ) (os : List Op) → ((j : ℕ) (o : Op) → slice_get os j ≡ Some o → slice_get file.ops (i + j) ≡ Some o) → IfSome (position_from (has_label label) i (labels_by_op os)) IsOp
@@ -361,45 +356,45 @@ module _ (file : File) (s : Scope) (names : NamesOf s file) where
   named_label None = tt
   named_label (Some i) = IfSome_then (position_from (λ (n : ℕ). n == i) 0 s.labels) (position_passes (λ (n : ℕ). n == i) s.labels) (λ k at. (at.0, at.1))
 
-  label_is_there : (name : Text) (at : ℕ) → Has IsLabel (label_at s (labels_by_op file.ops) name at)
+  label_is_there : (n : Placed Text) → Has IsLabel (label_at s (labels_by_op file.ops) n)
   unfolding label_at
-  label_is_there name at =
-      let label = label_named s.labels (place_of name s.names.names) in
-      any IsLabel (known at (declared_kind s [] name)) _ (λ k.
-      next Among IsLabel (if_fits at label) _ (fitting Among at label (named_label (place_of name s.names.names))) (λ l is.
-      label_stands l at (subst (λ (labels : List ℕ). l < length labels) names.labels (slice_get_within s.labels l is.0 is.1))))
+  label_is_there n =
+      let label = label_named s.labels (place_of n.value s.names.names) in
+      any IsLabel (known n.at (declared_kind s [] n.value)) _ (λ k.
+      next Among IsLabel (if_fits n.at label) _ (fitting Among n.at label (named_label (place_of n.value s.names.names))) (λ l is.
+      label_stands l n.at (subst (λ (labels : List ℕ). l < length labels) names.labels (slice_get_within s.labels l is.0 is.1))))
 
   -- all labels stand in one operation
-  abbrev Together : ℕ → Labels → Type 0
-  Together k st = LabelsFit file st.0 k
+  abbrev Together : ℕ → List ℕ → Type 0
+  Together k labels = LabelsFit file labels k
 
   same_op : (k at : ℕ) (l : ℕ × ℕ) (b : Bool) → (l.1 == k) ≡ b → IsLabel l → Has (StandsIn k) (if b then Ok l.0 else Err (faults.WrongSort at))
   same_op k at l true e h = subst (λ (n : ℕ). StandsIn n l.0) (eqb-true l.1 k e) h.0
   same_op k at l false e h = tt
 
-  one_label : (k label at : ℕ) → StandsIn k label → Together k (label ∷ [], at)
-  one_label k label at h = record { some = omega arith; known = All-cons IsKnown label [] h.known (All-nil IsKnown); within = All-cons (IsWithin k) label [] h.within (All-nil (IsWithin k)) }
+  one_label : (k label : ℕ) → StandsIn k label → Together k (label ∷ [])
+  one_label k label h = record { some = omega arith; known = All-cons IsKnown label [] h.known (All-nil IsKnown); within = All-cons (IsWithin k) label [] h.within (All-nil (IsWithin k)) }
 
-  label_more : (k label at : ℕ) (st : Labels) → Together k st → StandsIn k label → Together k (st.0 ++ label ∷ [], at)
-  label_more k label at st h is =
-      let count = length-append st.0 (label ∷ []) in
-      record { some = omega arith; known = All-push IsKnown st.0 label h.known is.known; within = All-push (IsWithin k) st.0 label h.within is.within }
+  label_more : (k label : ℕ) (ls : List ℕ) → Together k ls → StandsIn k label → Together k (ls ++ label ∷ [])
+  label_more k label ls h is =
+      let count = length-append ls (label ∷ []) in
+      record { some = omega arith; known = All-push IsKnown ls label h.known is.known; within = All-push (IsWithin k) ls label h.within is.within }
 
-  labels_keep : (k : ℕ) (st : Labels) (name : Text) → Together k st → Has (Together k) (label_step s (labels_by_op file.ops) k st name)
+  labels_keep : (k : ℕ) (ls : List ℕ) (n : Placed Text) → Together k ls → Has (Together k) (label_step s (labels_by_op file.ops) k ls n)
   unfolding label_step
-  labels_keep k st name h =
-      next IsLabel (Together k) (label_at s (labels_by_op file.ops) name (st.1 + 1)) _ (label_is_there name (st.1 + 1)) (λ l is.
-      next (StandsIn k) (Together k) (if_same_op k (st.1 + 1) l) _ (same_op k (st.1 + 1) l (l.1 == k) refl is) (λ label stands. label_more k label (st.1 + 2) st h stands))
+  labels_keep k ls n h =
+      next IsLabel (Together k) (label_at s (labels_by_op file.ops) n) _ (label_is_there n) (λ l is.
+      next (StandsIn k) (Together k) (if_same_op k n.at l) _ (same_op k n.at l (l.1 == k) refl is) (λ label stands. label_more k label ls h stands))
 
-  abbrev AreLabels : Labels × ℕ → Type 0
+  abbrev AreLabels : List ℕ × ℕ → Type 0
   AreLabels ls = IsOp ls.1 × Together ls.1 ls.0
 
-  labels_are : (at : ℕ) (name : Text) (others : List Text) → Has AreLabels (labels_mean s (labels_by_op file.ops) at name others)
+  labels_are : (n : Placed Text) (others : List (Placed Text)) → Has AreLabels (labels_mean s (labels_by_op file.ops) n others)
   unfolding labels_mean
-  labels_are at name others =
-      next IsLabel AreLabels (label_at s (labels_by_op file.ops) name at) _ (label_is_there name at) (λ l is.
-      next (Together l.1) AreLabels (in_turn (label_step s (labels_by_op file.ops) l.1) (l.0 ∷ [], at + 1) others) _
-      (turns (Together l.1) (label_step s (labels_by_op file.ops) l.1) (labels_keep l.1) (l.0 ∷ [], at + 1) others (one_label l.1 l.0 (at + 1) is.0)) (λ ls h. (is.1, h)))
+  labels_are n others =
+      next IsLabel AreLabels (label_at s (labels_by_op file.ops) n) _ (label_is_there n) (λ l is.
+      next (Together l.1) AreLabels (in_turn (label_step s (labels_by_op file.ops) l.1) (l.0 ∷ []) others) _
+      (turns (Together l.1) (label_step s (labels_by_op file.ops) l.1) (labels_keep l.1) (l.0 ∷ []) others (one_label l.1 l.0 is.0)) (λ ls h. (is.1, h)))
 
   -- ---- items
 
@@ -413,19 +408,19 @@ module _ (file : File) (s : Scope) (names : NamesOf s file) where
   own_locals : (k : ℕ) (op : Op) (c : Clause) → slice_get file.ops k ≡ Some op → ClauseFits file (locals_of file.ops k) true c → ClauseFits file op.locals true c
   own_locals k op c e h = subst (λ (ls : List Local). ClauseFits file ls true c) (ap locals_or_none e) h
 
-  invariant_more : (st : Parts) (c : Clause × ℕ) → PartsFit st → length st.0 < most limits.Invariants → InvariantFits file c.0 → PartsFit (with_invariant st c)
+  invariant_more : (st : Parts) (c : Clause) → PartsFit st → length st.0 < most limits.Invariants → InvariantFits file c → PartsFit (st.0 ++ c ∷ [], st.1)
   invariant_more st c h less fits =
-      let count = length-append st.0 (c.0 ∷ []) in
+      let count = length-append st.0 (c ∷ []) in
       record {
         invariants = omega arith;
-        each_invariant = All-append (InvariantFits file) st.0 (c.0 ∷ []) h.each_invariant (All-cons (InvariantFits file) c.0 [] fits (All-nil (InvariantFits file)));
+        each_invariant = All-append (InvariantFits file) st.0 (c ∷ []) h.each_invariant (All-cons (InvariantFits file) c [] fits (All-nil (InvariantFits file)));
         items = h.items;
         each_item = h.each_item;
       }
 
-  item_more : (st : Parts) (site : Site) (c : Clause × ℕ) → PartsFit st → length st.1 < most limits.Items → SiteFits file c.0 site → PartsFit (with_item st site c)
+  item_more : (st : Parts) (site : Site) (c : Clause) → PartsFit st → length st.1 < most limits.Items → SiteFits file c site → PartsFit (with_item st site c)
   item_more st site c h less fits =
-      let item : Item = record { site = site; clause = c.0 } in
+      let item : Item = record { site = site; clause = c } in
       let count = length-append st.1 (item ∷ []) in
       record {
         invariants = h.invariants;
@@ -437,15 +432,15 @@ module _ (file : File) (s : Scope) (names : NamesOf s file) where
   item_keeps : (st : Parts) (x : ItemTree) → PartsFit st → Has PartsFit (item_step s file.ops (labels_by_op file.ops) st x)
   unfolding item_step
   item_keeps st (InvariantItem c) h = below PartsFit (length st.0) (most limits.Invariants) _ _ h.invariants (λ less.
-      next (λ k. InvariantFits file k.0) PartsFit (clause_line_means s [] false (st.2 + 1) c) _ (line_fits [] false (st.2 + 1) c) (λ k fits. invariant_more st k h less fits))
+      next (InvariantFits file) PartsFit (clause_means s [] false c) _ (clause_fits [] false c) (λ k fits. invariant_more st k h less fits))
   item_keeps st (OverItem name c) h = below PartsFit (length st.1) (most limits.Items) _ _ h.items (λ less.
-      next IsOp PartsFit (op_at s file.ops name (st.2 + 1)) _ (op_is_there name (st.2 + 1)) (λ o is.
-      next (λ k. ClauseFits file (locals_of file.ops o) true k.0) PartsFit (clause_line_means s (locals_of file.ops o) true (st.2 + 3) c) _ (line_fits (locals_of file.ops o) true (st.2 + 3) c) (λ k fits.
-      item_more st (Over (record { 0 = o })) k h less (is.0, is.1, own_locals o is.0 k.0 is.1 fits))))
+      next IsOp PartsFit (op_at s file.ops name) _ (op_is_there name) (λ o is.
+      next (ClauseFits file (locals_of file.ops o) true) PartsFit (clause_means s (locals_of file.ops o) true c) _ (clause_fits (locals_of file.ops o) true c) (λ k fits.
+      item_more st (Over (record { 0 = o })) k h less (is.0, is.1, own_locals o is.0 k is.1 fits))))
   item_keeps st (AtItem name others c) h = below PartsFit (length st.1) (most limits.Items) _ _ h.items (λ less.
-      next AreLabels PartsFit (labels_mean s (labels_by_op file.ops) (st.2 + 1) name others) _ (labels_are (st.2 + 1) name others) (λ ls are.
-      next (λ k. ClauseFits file (locals_of file.ops ls.1) true k.0) PartsFit (clause_line_means s (locals_of file.ops ls.1) true ls.0.1 c) _ (line_fits (locals_of file.ops ls.1) true ls.0.1 c) (λ k fits.
-      item_more st (At ls.0.0) k h less (ls.1, are.0.0, are.0.1, are.1, own_locals ls.1 are.0.0 k.0 are.0.1 fits))))
+      next AreLabels PartsFit (labels_mean s (labels_by_op file.ops) name others) _ (labels_are name others) (λ ls are.
+      next (ClauseFits file (locals_of file.ops ls.1) true) PartsFit (clause_means s (locals_of file.ops ls.1) true c) _ (clause_fits (locals_of file.ops ls.1) true c) (λ k fits.
+      item_more st (At ls.0) k h less (ls.1, are.0.0, are.0.1, are.1, own_locals ls.1 are.0.0 k are.0.1 fits))))
 
   -- ---- the outline
 
@@ -454,23 +449,20 @@ module _ (file : File) (s : Scope) (names : NamesOf s file) where
   small_depth n at false true e f = let is = eqb-true n 1 f in omega arith
   small_depth n at false false e f = tt
 
-  depth_small : (at : ℕ) (d : Option ℕ) → Has (λ (n : ℕ). n ≤ 1) (depth_means at d)
-  depth_small at None = omega arith
-  depth_small at (Some n) = small_depth n (at + 1) (n == 0) (n == 1) refl refl
+  depth_small : (d : Option (Placed ℕ)) → Has (λ (n : ℕ). n ≤ 1) (depth_means d)
+  depth_small None = omega arith
+  depth_small (Some d) = small_depth d.value d.at (d.value == 0) (d.value == 1) refl refl
 
-  abbrev IsFit : Outline × ℕ → Type 0
-  IsFit x = OutlineFits file x.0
+  nothing_fits : PartsFit ([], [])
+  nothing_fits = record { invariants = omega arith; each_invariant = All-nil (InvariantFits file); items = omega arith; each_item = All-nil (ItemFits file) }
 
-  nothing_fits : (at : ℕ) → PartsFit ([], [], at)
-  nothing_fits at = record { invariants = omega arith; each_invariant = All-nil (InvariantFits file); items = omega arith; each_item = All-nil (ItemFits file) }
-
-  outline_keeps : (at : ℕ) (t : OutlineTree) → Has IsFit (outline_means s file.ops at t)
+  outline_keeps : (t : OutlineTree) → Has (OutlineFits file) (outline_means s file.ops t)
   unfolding outline_means
-  outline_keeps at (Outlined d xs) =
-      next (λ (n : ℕ). n ≤ 1) IsFit (depth_means (at + 2) d) _ (depth_small (at + 2) d) (λ n small.
-      next PartsFit IsFit (in_turn (item_step s file.ops (labels_by_op file.ops)) ([], [], at + 2 + depth_size d) xs) _
-      (turns PartsFit (item_step s file.ops (labels_by_op file.ops)) item_keeps ([], [], at + 2 + depth_size d) xs (nothing_fits (at + 2 + depth_size d))) (λ all h.
+  outline_keeps (Outlined d xs) =
+      next (λ (n : ℕ). n ≤ 1) (OutlineFits file) (depth_means d) _ (depth_small d) (λ n small.
+      next PartsFit (OutlineFits file) (in_turn (item_step s file.ops (labels_by_op file.ops)) ([], []) xs) _
+      (turns PartsFit (item_step s file.ops (labels_by_op file.ops)) item_keeps ([], []) xs nothing_fits) (λ all h.
       record { depth = small; invariants = h.invariants; each_invariant = h.each_invariant; items = h.items; each_item = h.each_item }))
 
 pub outline_fits : OutlinesFit
-outline_fits s file at after tree outline names e = has_along (λ (x : Outline × ℕ). OutlineFits file x.0) (outline_means s file.ops at tree) (outline, after) e (outline_keeps file s names at tree)
+outline_fits s file tree outline names e = has_along (OutlineFits file) (outline_means s file.ops tree) outline e (outline_keeps file s names tree)

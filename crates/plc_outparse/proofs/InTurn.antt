@@ -2,8 +2,7 @@
 use Rattle.std.proofs.Common.{◌≡◌, ◌+◌, ◌<◌, ◌≤◌, ℕ, List, drop, length, get_or, map, Result, Ok, refl}
 use Rattle.plc_scope.specs.declared.fault.ParseFault.{ParseFault}
 use Rattle.plc_scope.specs.Answers.{FailsAs}
-use Rattle.std.specs.List.{sum_by}
-use Rattle.plc_scope.proofs.Turns.{turn, stop, end, size_turn}
+use Rattle.plc_scope.proofs.Turns.{turn, stop, end}
 use Rattle.plc_outparse.specs.Meaning.{in_turn}
 
 module _ {S X Y : Type 0} (step : S → X → Result S ParseFault) (tree : Y → X) where
@@ -18,12 +17,6 @@ module _ {S X Y : Type 0} (step : S → X → Result S ParseFault) (tree : Y →
   pub taken : (s t : S) (ys : List Y) (n : ℕ) (y d : Y) → y ≡ get_or ys n d → n < length ys → step s (tree y) ≡ Ok t
       → from_place t ys (n + 1) ≡ from_place s ys n
   taken s t ys n y d e l is = turn all (λ s y. step s (tree y)) (λ s y ys. refl) s t ys n y d e l is
-
-  -- and what is left is smaller by the part that was taken
-  pub taken_size : (size : X → ℕ) (s t : S) (ys : List Y) (n : ℕ) (y d : Y) → y ≡ get_or ys n d → n < length ys
-      → step s (tree y) ≡ Ok t
-      → sum_by size (map tree (drop n ys)) ≡ size (tree y) + sum_by size (map tree (drop (n + 1) ys))
-  taken_size size s t ys n y d e l is = size_turn size tree ys n y d e l
 
   pub refused : (s : S) (ys : List Y) (n : ℕ) (y d : Y) (e : ParseFault) (total : Result S ParseFault)
       → y ≡ get_or ys n d → n < length ys → FailsAs e (step s (tree y)) → from_place s ys n ≡ total → FailsAs e total

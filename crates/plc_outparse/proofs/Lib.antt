@@ -1,5 +1,5 @@
+pub mod Alike
 pub mod AtFront
 pub mod Fits
 pub mod InTurn
-pub mod Lengths
 pub mod Marked

@@ -1,5 +1,5 @@
 -- An outline uses marks exactly where the tree that means it does: form by form, where one of its parts does.
-use Rattle.std.proofs.Common.{◌≡◌, ◌==◌, ℕ, ◌+◌, Bool, true, false, ◌||◌, Result, Ok, Err, List, [], ◌∷◌, ◌++◌, length}
+use Rattle.std.proofs.Common.{◌≡◌, ◌==◌, ℕ, Bool, true, false, ◌||◌, Result, Ok, Err, List, [], ◌∷◌, ◌++◌, length}
 use Rattle.std.proofs.Common.{refl, sym, ap, ◌∙◌}
 use Rattle.std.specs.List.{list_any}
 use Rattle.std.proofs.lemmas.List.Folds.{list_any-append}
@@ -9,7 +9,7 @@ use Rattle.plc_lang.specs.declared.syntax.Local.{Local}
 use Rattle.plc_lang.specs.declared.syntax.Op.{Op}
 use Rattle.plc_lang.specs.Labels.{labels_by_op}
 use Rattle.plc_lang.specs.Locals.{locals_of}
-use Rattle.plc_syntax.specs.Trees.{FlagTree, RetiredFlag, MarkedFlag, LiteralTree, FlagLiteral, NotLiteral}
+use Rattle.plc_syntax.specs.Trees.{Placed, FlagTree, RetiredFlag, MarkedFlag, LiteralTree, FlagLiteral, NotLiteral}
 use Rattle.plc_syntax.specs.Trees.{EqualityLiteral, ClauseTree, Claims, ItemTree, InvariantItem, OverItem, AtItem}
 use Rattle.plc_syntax.specs.Trees.{OutlineTree, Outlined}
 use Rattle.plc_syntax.specs.Marks.{flag_uses_marks, literal_tree_uses_marks, clause_tree_uses_marks}
@@ -25,10 +25,9 @@ use Rattle.plc_logic.specs.declared.clause.Site.TheVariants.{Over, At}
 use Rattle.plc_logic.specs.declared.clause.Outline.{Outline}
 use Rattle.plc_logic.specs.Marks.{literal_uses_marks, clause_uses_marks, item_uses_marks, outline_uses_marks}
 use Rattle.plc_outparse.specs.Reach.{Reach, base_at}
-use Rattle.plc_outparse.specs.Sizes.{term_size, literal_size, bound_size, depth_size}
 use Rattle.plc_outparse.specs.Meaning.{in_turn, term_means, second_means, pointer_means, flag_means, literal_means}
-use Rattle.plc_outparse.specs.Meaning.{counted, Literals, literal_step, bound_means, reach, clause_means}
-use Rattle.plc_outparse.specs.Meaning.{clause_line_means, op_at, labels_mean, Parts, with_invariant, with_item}
+use Rattle.plc_outparse.specs.Meaning.{counted, literal_step, bound_means, reach, clause_means}
+use Rattle.plc_outparse.specs.Meaning.{op_at, labels_mean, Parts, with_item}
 use Rattle.plc_outparse.specs.Meaning.{item_step, depth_means, outline_means}
 
 -- ---- one more
@@ -78,62 +77,53 @@ counted_marked uses n at (Err e) is =
     both_err (LiteralSpeaks uses) (stands_at at e) (n == most limits.Literals) e _ e
 
 -- the literals so far do
-abbrev literals_speak : Literals → Bool
-literals_speak s = list_any literal_uses_marks s.0
+abbrev literals_speak : List Literal → Bool
+literals_speak ls = list_any literal_uses_marks ls
+
+-- a literal at its place does
+abbrev placed_uses : Placed LiteralTree → Bool
+placed_uses l = literal_tree_uses_marks l.value
 
 module _ (r : Reach) where
-  flag_marked : (is_so : Bool) (at : ℕ) (f : FlagTree)
-      → Has (LiteralSpeaks (flag_uses_marks f)) (flag_means r is_so at f)
-  flag_marked is_so at (RetiredFlag n) = any (LiteralSpeaks false) (base_at r n (at + 2)) _ (λ b. refl)
-  flag_marked is_so at (MarkedFlag p) = any (LiteralSpeaks true) (pointer_means r (at + 2) p) _ (λ t. refl)
+  flag_marked : (is_so : Bool) (f : FlagTree) → Has (LiteralSpeaks (flag_uses_marks f)) (flag_means r is_so f)
+  flag_marked is_so (RetiredFlag n) = any (LiteralSpeaks false) (base_at r n) _ (λ b. refl)
+  flag_marked is_so (MarkedFlag p) = any (LiteralSpeaks true) (pointer_means r p) _ (λ t. refl)
 
-  literal_marked : (at : ℕ) (l : LiteralTree)
-      → Has (LiteralSpeaks (literal_tree_uses_marks l)) (literal_means r at l)
+  literal_marked : (l : LiteralTree) → Has (LiteralSpeaks (literal_tree_uses_marks l)) (literal_means r l)
   unfolding literal_means
-  literal_marked at (FlagLiteral f) = flag_marked true at f
-  literal_marked at (NotLiteral f) = flag_marked false (at + 1) f
-  literal_marked at (EqualityLiteral a e b) =
-      any (LiteralSpeaks false) (term_means r at a) _ (λ x.
-      any (LiteralSpeaks false) (second_means r x.1 (at + term_size a + 1) b) _ (λ y. refl))
+  literal_marked (FlagLiteral f) = flag_marked true f
+  literal_marked (NotLiteral f) = flag_marked false f
+  literal_marked (EqualityLiteral a e b) =
+      any (LiteralSpeaks false) (term_means r a) _ (λ x.
+      any (LiteralSpeaks false) (second_means r x.1 b) _ (λ y. refl))
 
-  literal_adds : (s : Literals) (l : LiteralTree)
-      → Has (λ t. literals_speak t ≡ (literals_speak s || literal_tree_uses_marks l)) (literal_step r s l)
+  literal_adds : (ls : List Literal) (l : Placed LiteralTree)
+      → Has (λ t. literals_speak t ≡ (literals_speak ls || placed_uses l)) (literal_step r ls l)
   unfolding literal_step
-  literal_adds s l = let uses : Bool = literal_tree_uses_marks l in
-      next (LiteralSpeaks uses) (λ t. literals_speak t ≡ (literals_speak s || uses))
-      (counted (length s.0) (s.1 + 1) (literal_means r (s.1 + 1) l)) _
-      (counted_marked uses (length s.0) (s.1 + 1) (literal_means r (s.1 + 1) l) (literal_marked (s.1 + 1) l))
-      (λ x is. any_pushed literal_uses_marks s.0 x uses is)
+  literal_adds ls l = let uses : Bool = placed_uses l in
+      next (LiteralSpeaks uses) (λ t. literals_speak t ≡ (literals_speak ls || uses))
+      (counted (length ls) l.at (literal_means r l.value)) _
+      (counted_marked uses (length ls) l.at (literal_means r l.value) (literal_marked l.value))
+      (λ x is. any_pushed literal_uses_marks ls x uses is)
 
 -- ---- clauses
 
--- and the place after it
-abbrev ClauseSpeaks : Bool → Clause × ℕ → Type 0
-ClauseSpeaks uses c = clause_uses_marks c.0 ≡ uses
+abbrev ClauseSpeaks : Bool → Clause → Type 0
+ClauseSpeaks uses c = clause_uses_marks c ≡ uses
 
 module _ (s : Scope) (ls : List Local) (in_operation : Bool) where
-  clause_marked : (at : ℕ) (c : ClauseTree)
-      → Has (ClauseSpeaks (clause_tree_uses_marks c)) (clause_means s ls in_operation at c)
+  clause_marked : (c : ClauseTree) → Has (ClauseSpeaks (clause_tree_uses_marks c)) (clause_means s ls in_operation c)
   unfolding clause_means
-  clause_marked at (Claims b l others) =
+  clause_marked (Claims b l others) =
       let ours : Bool = literal_tree_uses_marks l in
-      let theirs : Bool = list_any literal_tree_uses_marks others in
-      any (ClauseSpeaks (ours || theirs)) (bound_means s ls at b) _ (λ bound.
+      let theirs : Bool = list_any placed_uses others in
+      any (ClauseSpeaks (ours || theirs)) (bound_means s ls b) _ (λ bound.
       let r = reach s ls in_operation bound in
-      next (LiteralSpeaks ours) (ClauseSpeaks (ours || theirs)) (literal_means r (at + bound_size b) l) _
-      (literal_marked r (at + bound_size b) l) (λ first is.
-      let start : Literals = (first ∷ [], at + bound_size b + literal_size l) in
-      next (λ t. literals_speak t ≡ (literals_speak start || theirs)) (ClauseSpeaks (ours || theirs))
-      (in_turn (literal_step r) start others) _
-      (turns_marked (literal_step r) literals_speak literal_tree_uses_marks (literal_adds r) start others) (λ all are.
+      next (LiteralSpeaks ours) (ClauseSpeaks (ours || theirs)) (literal_means r l) _ (literal_marked r l) (λ first is.
+      next (λ t. literals_speak t ≡ (literals_speak (first ∷ []) || theirs)) (ClauseSpeaks (ours || theirs))
+      (in_turn (literal_step r) (first ∷ []) others) _
+      (turns_marked (literal_step r) literals_speak placed_uses (literal_adds r) (first ∷ []) others) (λ all are.
       are ∙ ap (λ c. c || theirs) (or_nothing (literal_uses_marks first) ∙ is))))
-
-  line_marked : (at : ℕ) (c : ClauseTree)
-      → Has (ClauseSpeaks (clause_tree_uses_marks c)) (clause_line_means s ls in_operation at c)
-  unfolding clause_line_means
-  line_marked at c =
-      next (ClauseSpeaks (clause_tree_uses_marks c)) (ClauseSpeaks (clause_tree_uses_marks c))
-      (clause_means s ls in_operation at c) _ (clause_marked at c) (λ k is. is)
 
 -- ---- items
 
@@ -141,17 +131,17 @@ module _ (s : Scope) (ls : List Local) (in_operation : Bool) where
 abbrev parts_speak : Parts → Bool
 parts_speak st = list_any clause_uses_marks st.0 || list_any item_uses_marks st.1
 
-invariant_adds : (st : Parts) (c : Clause × ℕ) (uses : Bool) → clause_uses_marks c.0 ≡ uses
-    → parts_speak (with_invariant st c) ≡ (parts_speak st || uses)
+invariant_adds : (st : Parts) (c : Clause) (uses : Bool) → clause_uses_marks c ≡ uses
+    → parts_speak (st.0 ++ c ∷ [], st.1) ≡ (parts_speak st || uses)
 invariant_adds st c uses is =
-    ap (λ b. b || list_any item_uses_marks st.1) (any_pushed clause_uses_marks st.0 c.0 uses is)
+    ap (λ b. b || list_any item_uses_marks st.1) (any_pushed clause_uses_marks st.0 c uses is)
     ∙ or_swaps (list_any clause_uses_marks st.0) (list_any item_uses_marks st.1) uses
 
-item_adds : (st : Parts) (site : Site) (c : Clause × ℕ) (uses : Bool) → clause_uses_marks c.0 ≡ uses
+item_adds : (st : Parts) (site : Site) (c : Clause) (uses : Bool) → clause_uses_marks c ≡ uses
     → parts_speak (with_item st site c) ≡ (parts_speak st || uses)
 item_adds st site c uses is =
     ap (λ b. list_any clause_uses_marks st.0 || b)
-    (any_pushed item_uses_marks st.1 (record { site = site; clause = c.0 }) uses is)
+    (any_pushed item_uses_marks st.1 (record { site = site; clause = c }) uses is)
     ∙ or_groups (list_any clause_uses_marks st.0) (list_any item_uses_marks st.1) uses
 
 module _ (s : Scope) (ops : List Op) where
@@ -160,36 +150,31 @@ module _ (s : Scope) (ops : List Op) where
   unfolding item_step
   step_adds st (InvariantItem c) = let uses : Bool = clause_tree_uses_marks c in
       unless (λ t. parts_speak t ≡ (parts_speak st || uses)) (length st.0 == most limits.Invariants) _ _ (λ few.
-      next (ClauseSpeaks uses) (λ t. parts_speak t ≡ (parts_speak st || uses))
-      (clause_line_means s [] false (st.2 + 1) c) _ (line_marked s [] false (st.2 + 1) c)
-      (λ k is. invariant_adds st k uses is))
+      next (ClauseSpeaks uses) (λ t. parts_speak t ≡ (parts_speak st || uses)) (clause_means s [] false c) _
+      (clause_marked s [] false c) (λ k is. invariant_adds st k uses is))
   step_adds st (OverItem name c) = let uses : Bool = clause_tree_uses_marks c in
       unless (λ t. parts_speak t ≡ (parts_speak st || uses)) (length st.1 == most limits.Items) _ _ (λ few.
-      any (λ t. parts_speak t ≡ (parts_speak st || uses)) (op_at s ops name (st.2 + 1)) _ (λ o.
+      any (λ t. parts_speak t ≡ (parts_speak st || uses)) (op_at s ops name) _ (λ o.
       next (ClauseSpeaks uses) (λ t. parts_speak t ≡ (parts_speak st || uses))
-      (clause_line_means s (locals_of ops o) true (st.2 + 3) c) _ (line_marked s (locals_of ops o) true (st.2 + 3) c)
+      (clause_means s (locals_of ops o) true c) _ (clause_marked s (locals_of ops o) true c)
       (λ k is. item_adds st (Over (record { 0 = o })) k uses is)))
   step_adds st (AtItem name names c) = let uses : Bool = clause_tree_uses_marks c in
       unless (λ t. parts_speak t ≡ (parts_speak st || uses)) (length st.1 == most limits.Items) _ _ (λ few.
-      any (λ t. parts_speak t ≡ (parts_speak st || uses)) (labels_mean s (labels_by_op ops) (st.2 + 1) name names) _
-      (λ ls.
+      any (λ t. parts_speak t ≡ (parts_speak st || uses)) (labels_mean s (labels_by_op ops) name names) _ (λ ls.
       next (ClauseSpeaks uses) (λ t. parts_speak t ≡ (parts_speak st || uses))
-      (clause_line_means s (locals_of ops ls.1) true ls.0.1 c) _ (line_marked s (locals_of ops ls.1) true ls.0.1 c)
-      (λ k is. item_adds st (At ls.0.0) k uses is)))
+      (clause_means s (locals_of ops ls.1) true c) _ (clause_marked s (locals_of ops ls.1) true c)
+      (λ k is. item_adds st (At ls.0) k uses is)))
 
   -- ---- the outline
 
-  -- and the place after it
-  abbrev pub OutlineSpeaks : Bool → Outline × ℕ → Type 0
-  OutlineSpeaks uses o = outline_uses_marks o.0 ≡ uses
+  abbrev pub OutlineSpeaks : Bool → Outline → Type 0
+  OutlineSpeaks uses o = outline_uses_marks o ≡ uses
 
-  pub outline_marked : (at : ℕ) (t : OutlineTree)
-      → Has (OutlineSpeaks (outline_tree_uses_marks t)) (outline_means s ops at t)
+  pub outline_marked : (t : OutlineTree) → Has (OutlineSpeaks (outline_tree_uses_marks t)) (outline_means s ops t)
   unfolding outline_means
-  outline_marked at (Outlined d items) =
+  outline_marked (Outlined d items) =
       let uses : Bool = list_any item_tree_uses_marks items in
-      let start : Parts = ([], [], at + 2 + depth_size d) in
-      any (OutlineSpeaks uses) (depth_means (at + 2) d) _ (λ depth.
-      next (λ t. parts_speak t ≡ uses) (OutlineSpeaks uses) (in_turn (item_step s ops (labels_by_op ops)) start items) _
-      (turns_marked (item_step s ops (labels_by_op ops)) parts_speak item_tree_uses_marks step_adds start items)
+      any (OutlineSpeaks uses) (depth_means d) _ (λ depth.
+      next (λ t. parts_speak t ≡ uses) (OutlineSpeaks uses) (in_turn (item_step s ops (labels_by_op ops)) ([], []) items) _
+      (turns_marked (item_step s ops (labels_by_op ops)) parts_speak item_tree_uses_marks step_adds ([], []) items)
       (λ all are. are))

@@ -32,5 +32,5 @@ pub record NamesOf (s : Scope) (file : File) : Type 0 where
 
 -- an outline that has a meaning after the operations of a file fits the file
 abbrev pub OutlinesFit : Type 0
-OutlinesFit = (s : Scope) (file : File) (at after : ℕ) (tree : OutlineTree) (outline : Outline) → NamesOf s file
-    → outline_means s file.ops at tree ≡ Ok (outline, after) → OutlineFits file outline
+OutlinesFit = (s : Scope) (file : File) (tree : OutlineTree) (outline : Outline) → NamesOf s file
+    → outline_means s file.ops tree ≡ Ok outline → OutlineFits file outline

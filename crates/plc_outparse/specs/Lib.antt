@@ -1,5 +1,4 @@
 -- what contracts of public calls say
-pub mod Sizes
 pub mod Reach
 pub mod Meaning
 pub mod Outlines

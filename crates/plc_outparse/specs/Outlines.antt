@@ -3,24 +3,21 @@ use Rattle.std.specs.Prelude.{◌≡◌, ℕ, ◌+◌, List, length, Result, Err
 use Rattle.plc_lex.specs.declared.token.TokenKind.{TokenKind}
 use Rattle.plc_lang.specs.declared.syntax.Op.{Op}
 use Rattle.plc_syntax.specs.declared.rest.Rest.{Rest}
-use Rattle.plc_syntax.specs.Syntax.{OutlineFaultAt}
-use Rattle.plc_syntax.specs.Trees.{OutlineTree, outline_then}
+use Rattle.plc_syntax.specs.Syntax.{AreOfOutline, OutlineFaultAt}
+use Rattle.plc_syntax.specs.Trees.{OutlineTree}
 use Rattle.plc_scope.specs.declared.fault.ParseFault.{ParseFault}
 use Rattle.plc_scope.specs.declared.fault.ParseFault.TheVariants as faults
 use Rattle.plc_scope.specs.declared.scope.Scope.{Scope}
 use Rattle.plc_logic.specs.declared.clause.Outline.{Outline}
 use Rattle.plc_outparse.specs.Meaning.{outline_means}
 
--- the tokens begin with those of an outline's tree, after which these stand
-pub record IsOutline (ts : List TokenKind) (tree : OutlineTree) (after : List TokenKind) : Type 0 where
-  pub tokens : ts ≡ outline_then tree after
-
--- they do, and from a place on the tree has this meaning
+-- the tokens, of which the first is at this place, begin with those of a tree, after which others stand; and the tree
+-- has this meaning
 pub record Means (s : Scope) (ops : List Op) (at : ℕ) (ts : List TokenKind)
-    (meaning : Result (Outline × ℕ) ParseFault) (after : List TokenKind) : Type 0 where
+    (meaning : Result Outline ParseFault) (after : List TokenKind) : Type 0 where
   pub tree : OutlineTree
-  pub is_outline : IsOutline ts tree after
-  pub is : outline_means s ops at tree ≡ meaning
+  pub is_outline : AreOfOutline tree at ts after
+  pub is : outline_means s ops tree ≡ meaning
 
 -- what is left ends where that before ended
 pub record Within (before after : Rest) : Type 0 where
@@ -29,12 +26,12 @@ pub record Within (before after : Rest) : Type 0 where
 -- at most one outline stands at the front of tokens, so they have one meaning and one rest, and where they have none
 -- no outline stands there
 pub record OutlinesAreOne : Type 0 where
-  pub meaning : (s : Scope) (ops : List Op) (at : ℕ) (ts : List TokenKind) (m n : Result (Outline × ℕ) ParseFault)
+  pub meaning : (s : Scope) (ops : List Op) (at : ℕ) (ts : List TokenKind) (m n : Result Outline ParseFault)
       (r q : List TokenKind) → Means s ops at ts m r → Means s ops at ts n q → m ≡ n
-  pub rest : (ts : List TokenKind) (a b : OutlineTree) (r q : List TokenKind) → IsOutline ts a r → IsOutline ts b q
-      → r ≡ q
-  pub not_both : (ts : List TokenKind) (place : ℕ) (a : OutlineTree) (r : List TokenKind) → OutlineFaultAt ts place
-      → IsOutline ts a r → ⊥
+  pub rest : (at : ℕ) (ts : List TokenKind) (a b : OutlineTree) (r q : List TokenKind) → AreOfOutline a at ts r
+      → AreOfOutline b at ts q → r ≡ q
+  pub not_both : (at : ℕ) (ts : List TokenKind) (place : ℕ) (a : OutlineTree) (r : List TokenKind)
+      → OutlineFaultAt ts place → AreOfOutline a at ts r → ⊥
 
 -- the fault that they are answered with: of syntax at the place where none can stand there any more, else that of
 -- the meaning; memory may run out anywhere

@@ -4,7 +4,7 @@ use Rattle.std.specs.Prelude.{ℕ, Bool, true, false, List, Option, Some, None, 
 use Rattle.plc_base.specs.Names.{NameList, place_of}
 use Rattle.plc_base.specs.declared.ids.FieldId.{FieldId}
 use Rattle.plc_lang.specs.declared.syntax.Local.{Local}
-use Rattle.plc_syntax.specs.Trees.{Text}
+use Rattle.plc_syntax.specs.Trees.{Text, Placed}
 use Rattle.plc_scope.specs.declared.fault.ParseFault.{ParseFault}
 use Rattle.plc_scope.specs.declared.scope.Scope.{Scope}
 use Rattle.plc_scope.specs.declared.binding.Binding.{Binding}
@@ -12,7 +12,7 @@ use Rattle.plc_scope.specs.declared.binding.Binding.TheVariants.{Taken, Shared, 
 use Rattle.plc_scope.specs.declared.binding.Binding.TheVariants.{Auxiliary, Value, LocalOnly}
 use Rattle.plc_scope.specs.declared.binding.Found.{Found}
 use Rattle.plc_scope.specs.declared.binding.Found.TheVariants.{Local as LocalAt, OfFile}
-use Rattle.plc_scope.specs.Scope.{needed, found}
+use Rattle.plc_scope.specs.Scope.{known, needed, found}
 use Rattle.plc_logic.specs.declared.clause.Base.{Base}
 use Rattle.plc_logic.specs.declared.clause.Base.TheVariants as bases
 use Rattle.plc_logic.specs.declared.clause.Term.{Term}
@@ -77,9 +77,13 @@ as_base (kinds.Auxiliary g s) = None
 as_base (kinds.Value g v) = None
 as_base kinds.NoValue = None
 
--- the base that is named at a place
-unfoldable pub base_at : Reach → Text → ℕ → Result Base ParseFault
-base_at r name at = needed as_base at (kind_of r name)
+-- what a name is in a clause, told at the name
+abbrev pub kind_at : Reach → Placed Text → Result Kind ParseFault
+kind_at r n = known n.at (kind_of r n.value)
+
+-- the base that a name is
+unfoldable pub base_at : Reach → Placed Text → Result Base ParseFault
+base_at r n = needed as_base n.at (kind_of r n.value)
 
 -- a base alone is a term
 abbrev pub base_term : Base → Term

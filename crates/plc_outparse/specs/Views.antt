@@ -1,5 +1,4 @@
 -- What the program has in reach, as the definitions have it.
-use Rattle.std.specs.Prelude.{ℕ}
 use Rattle.plc_outparse.specs.declared.item.Parts.{Parts as PartsSoFar}
 use Rattle.plc_outparse.specs.declared.reach.Reach.{Reach as InReach}
 use Rattle.plc_outparse.specs.Meaning.{Parts}
@@ -9,6 +8,6 @@ use Rattle.plc_outparse.specs.Reach.{Reach}
 abbrev pub reach_of : InReach → Reach
 reach_of r = record { scope = r.scope.now; locals = r.locals.now; in_operation = r.in_operation; bound = r.bound.now }
 
--- the parts so far, and the place after them
-abbrev pub parts_at : PartsSoFar → ℕ → Parts
-parts_at parts at = (parts.invariants, parts.items, at)
+-- the parts so far
+abbrev pub parts_of : PartsSoFar → Parts
+parts_of parts = (parts.invariants, parts.items)

@@ -2,15 +2,17 @@
 // the name is in the file. A local of another operation has no declaration in reach.
 ghost use Rattle.std.specs.Prelude.{◌≡◌, ◌≤◌, length};
 ghost use Rattle.plc_scope.specs.Answers.{Gives};
+ghost use Rattle.plc_syntax.specs.Views.{name_tree};
 ghost use Rattle.plc_scope.specs.Scope.{most_locals, known};
-ghost use Rattle.plc_outparse.specs.Reach.{auxiliary_sort, binding_kind, local_kind, declared_kind, kind_of, base_at};
+ghost use Rattle.plc_outparse.specs.Reach.{auxiliary_sort, binding_kind, local_kind, declared_kind, kind_at, base_at};
 ghost use Rattle.plc_outparse.specs.Views.{reach_of};
 
 use crate::kind::Kind;
 use plc_base::Names;
 use plc_lang::Local;
 use plc_logic::{Base, Sort};
-use plc_scope::{Binding, Found, ParseFault, Scope};
+use plc_scope::{Binding, Found, Meaning, ParseFault, Scope};
+use plc_syntax::Name;
 
 /// What is in reach in a clause.
 #[derive(Clone, Copy)]
@@ -76,34 +78,35 @@ pub fn declared_kind(scope: &Scope, locals: &[Local], name: &[u8]) -> Option<Kin
     }
 }
 
-/// What a name at a place is that isn't quantified. `Undeclared` where it has no declaration in reach.
-pub fn known(scope: &Scope, locals: &[Local], name: &[u8], at: u32) -> Result<Kind, ParseFault>
+/// What a name is that isn't quantified. `Undeclared` where it has no declaration in reach.
+pub fn known(scope: &Scope, locals: &[Local], name: Name) -> Meaning<Kind>
     requires { length locals.now ≤ most_locals }
-    ensures { Gives (λ kind. kind) result (known at (declared_kind scope.now locals.now name.now)) }
+    ensures { Gives (λ kind. kind) result
+        (known name.entry.at (declared_kind scope.now locals.now name.entry.value.now)) }
 {
-    declared_kind(scope, locals, name).ok_or(ParseFault::Undeclared { at })
+    declared_kind(scope, locals, name.value).ok_or(ParseFault::Undeclared { at: name.at })
 }
 
-/// What a name at a place of a clause is. `Undeclared` where it has no declaration in reach.
+/// What a name in a clause is. `Undeclared` where it has no declaration in reach.
 #[tactic(auto, unfolding(crate::specs::Reach::kind_of))]
-pub fn kind_at(reach: &Reach, name: &[u8], at: u32) -> Result<Kind, ParseFault>
+pub fn kind_at(reach: &Reach, name: Name) -> Meaning<Kind>
     requires { length reach.now.locals.now ≤ most_locals }
-    ensures { Gives (λ kind. kind) result (known at (kind_of (reach_of reach.now) name.now)) }
+    ensures { Gives (λ kind. kind) result (kind_at (reach_of reach.now) (name_tree name.entry)) }
 {
-    match reach.bound.find(name) {
+    match reach.bound.find(name.value) {
         Some(number) => Ok(Kind::Node(Base::Bound(number))),
-        None => known(reach.scope, reach.locals, name, at),
+        None => known(reach.scope, reach.locals, name),
     }
 }
 
-/// The base of a field that a name at a place is; `Undeclared`, or `WrongSort` for another thing.
+/// The base of a field that a name is; `Undeclared`, or `WrongSort` for another thing.
 #[tactic(auto, unfolding(crate::specs::Reach::base_at))]
-pub fn base_at(reach: &Reach, name: &[u8], at: u32) -> Result<Base, ParseFault>
+pub fn base_at(reach: &Reach, name: Name) -> Meaning<Base>
     requires { length reach.now.locals.now ≤ most_locals }
-    ensures { Gives (λ base. base) result (base_at (reach_of reach.now) name.now at) }
+    ensures { Gives (λ base. base) result (base_at (reach_of reach.now) (name_tree name.entry)) }
 {
-    match kind_at(reach, name, at)? {
+    match kind_at(reach, name)? {
         Kind::Node(base) => Ok(base),
-        _ => Err(ParseFault::WrongSort { at }),
+        _ => Err(ParseFault::WrongSort { at: name.at }),
     }
 }

@@ -8,8 +8,8 @@ use Rattle.plc_scope.specs.declared.fault.ParseFault.{ParseFault}
 use Rattle.plc_scope.specs.declared.fault.ParseFault.TheVariants as faults
 use Rattle.plc_scope.specs.Answers.{Gives}
 use Rattle.plc_syntax.specs.Nesting.{NoneTooDeep}
-use Rattle.plc_syntax.specs.Syntax.{kinds}
-use Rattle.plc_syntax.specs.Trees.{FileTree, file_tokens}
+use Rattle.plc_syntax.specs.Syntax.{kinds, AreOfFile}
+use Rattle.plc_syntax.specs.Trees.{FileTree}
 use Rattle.plc_tree.proofs.Places.{file_is_one}
 use Rattle.plc_parse.specs.declared.unit.Unit.{Unit as FileUnit}
 use Rattle.plc_parse.specs.Fit.{ObserverFits, UnitFits, UnitsFit}
@@ -20,7 +20,7 @@ use Rattle.plc_parse.proofs.Fits.{file_fits}
 use Rattle.plc_parse.proofs.Whole.{file_whole}
 
 -- the tokens are a tree's, and no block stands too deep
-module _ (ts : List Token) (tree : FileTree) (spelled : file_tokens tree ≡ kinds ts) (shallow : NoneTooDeep (kinds ts)) where
+module _ (ts : List Token) (tree : FileTree) (spelled : AreOfFile tree (kinds ts)) (shallow : NoneTooDeep (kinds ts)) where
   pub unit_is : (r : Result FileUnit ParseFault) → Gives (λ u. u) r (file_means (lines_of ts) tree)
       → IfOk r (λ u. IsUnitOf ts u)
   unit_is (Ok u) g = record { shallow = shallow; means = record { tree = tree; tokens = spelled; is = g } }
@@ -34,7 +34,7 @@ module _ (ts : List Token) (tree : FileTree) (spelled : file_tokens tree ≡ kin
 
   -- what is spelled is what the tree means
   said : (u : FileUnit) → IsUnitOf ts u → file_means (lines_of ts) tree ≡ Ok u
-  said u h = ap (file_means (lines_of ts)) (file_is_one tree h.means.tree (spelled ∙ sym h.means.tokens)) ∙ h.means.is
+  said u h = ap (file_means (lines_of ts)) (file_is_one tree h.means.tree (kinds ts) spelled h.means.tokens) ∙ h.means.is
 
   pub no_other_fault : (r : Result FileUnit ParseFault) (u : FileUnit) → Gives (λ x. x) r (file_means (lines_of ts) tree)
       → IsUnitOf ts u → IfErr r (λ e. e ≡ faults.Memory)
@@ -85,4 +85,4 @@ module _ (ts : List Token) where
 -- tokens mean one thing
 pub one_meaning : UnitsAreUnique
 one_meaning ts a b m n =
-    sym m.is ∙ ap (file_means (lines_of ts)) (file_is_one m.tree n.tree (m.tokens ∙ sym n.tokens)) ∙ n.is
+    sym m.is ∙ ap (file_means (lines_of ts)) (file_is_one m.tree n.tree (kinds ts) m.tokens n.tokens) ∙ n.is

@@ -11,8 +11,7 @@ use Rattle.plc_lang.specs.declared.syntax.Primitive.{Primitive}
 use Rattle.plc_lang.specs.declared.syntax.Ghost.{Ghost}
 use Rattle.plc_lang.specs.declared.syntax.Local.{Local}
 use Rattle.plc_lang.specs.Allocation.{is_new}
-use Rattle.plc_syntax.specs.Trees.{Text, FieldTree, PointerField, DataField, FunctionTree, Declares, GhostTree, Auxiliary, OneOf, OfThreads, InitialTree, BlockTree, OpTree, Operates, FileTree}
-use Rattle.plc_syntax.specs.Sizes.{initial_size, primitive_size}
+use Rattle.plc_syntax.specs.Trees.{Text, Placed, FieldTree, PointerField, DataField, FunctionTree, Declares, GhostTree, Auxiliary, OneOf, OfThreads, InitialTree, BlockTree, OpTree, Operates, FileTree}
 use Rattle.plc_scope.specs.declared.fault.ParseFault.{ParseFault}
 use Rattle.plc_scope.specs.declared.fault.ParseFault.TheVariants as faults
 use Rattle.plc_scope.specs.declared.scope.Scope.{Scope}
@@ -22,7 +21,7 @@ use Rattle.plc_scope.specs.Scope.{◌>>=◌, most_locals, if_new, first_scope, w
 use Rattle.plc_scope.specs.Primitives.{primitive_means, initial_means, condition_means, call_means}
 use Rattle.plc_parse.specs.declared.unit.Unit.{Unit as FileUnit}
 use Rattle.plc_scope.specs.Limits.{stands_at}
-use Rattle.plc_parse.specs.Meaning.{counted, count_of, before, allocates, forms_mean, atomic_means, initials_mean, one_or_skip, label_means, statements_mean, field_means, shared_means, function_means, value_means, values_mean, ghost_means, listed, watch_means, init_means, others_mean, parameters_mean, local_means, locals_mean, op_means, outlined_means, file_means}
+use Rattle.plc_parse.specs.Meaning.{counted, count_of, before, allocates, forms_mean, atomic_means, initials_mean, one_or_skip, label_means, statements_mean, field_means, shared_means, function_means, value_means, values_mean, ghost_means, listed, watch_means, init_means, parameters_mean, local_means, locals_mean, op_means, placed_op_means, line_at, outlined_means, file_means}
 use Rattle.plc_scope.proofs.Holds.{Has, has_along, weaker, next, any, unless, if_ok, both_err, below}
 use Rattle.plc_parse.proofs.Holds.{OneHas, EachHas, one_name, each_has, Free}
 use Rattle.plc_parse.proofs.Upward.{Facts, GoesUp, PartsHave, PrimitiveHas, AtomicHas, CallHas, LabelRead, Read, all_have, statements_read}
@@ -34,10 +33,10 @@ record Between (s : Scope) : Type 0 where
   locals : s.locals ≡ []
   labels : length s.labels ≤ most limits.Labels
 
-declared_between : (s : Scope) (name : Text) (at : ℕ) (b : Binding) → Between s → Has Between (declared s name at b)
-declared_between s name at b h = new (place_of name s.names.names)
+declared_between : (s : Scope) (name : Placed Text) (b : Binding) → Between s → Has Between (declared s name b)
+declared_between s name b h = new (place_of name.value s.names.names)
   where
-    new : (o : Option ℕ) → Has Between (if_new o at (with_name s name b))
+    new : (o : Option ℕ) → Has Between (if_new o name.at (with_name s name.value b))
     new None = record { locals = h.locals; labels = h.labels }
     new (Some i) = tt
 
@@ -46,22 +45,22 @@ record Room (what : What1) (n : ℕ) (s : Scope) : Type 0 where
   count : n ≤ most what
   between : Between s
 
-room_for : (what : What1) (n : ℕ) (s : Scope) (name : Text) (at : ℕ) (b : Binding) → Room what n s → (n == most what) ≡ false → Has (Room what (n + 1)) (declared s name at b)
-room_for what n s name at b h few = weaker Between (Room what (n + 1)) (declared s name at b) (λ t k. record { count = omega (arith, h.count, eqb-false n (most what) few); between = k }) (declared_between s name at b h.between)
+room_for : (what : What1) (n : ℕ) (s : Scope) (name : Placed Text) (b : Binding) → Room what n s → (n == most what) ≡ false → Has (Room what (n + 1)) (declared s name b)
+room_for what n s name b h few = weaker Between (Room what (n + 1)) (declared s name b) (λ t k. record { count = omega (arith, h.count, eqb-false n (most what) few); between = k }) (declared_between s name b h.between)
 
 -- nothing was declared of a kind
 room : {what : What1} {s : Scope} → Between s → Room what 0 s
 room h = record { count = omega arith; between = h }
 
-field_fits : (s : Scope) (n at : ℕ) (f : FieldTree) → Room limits.Fields n s → Has (OneHas Free (Room limits.Fields) n) (field_means s n at f)
-field_fits s n at (PointerField name) h = one_name Free (Room limits.Fields) n limits.Fields s name (at + 1) _ _ _ tt (room_for limits.Fields n s name (at + 1) _ h)
-field_fits s n at (DataField name) h = one_name Free (Room limits.Fields) n limits.Fields s name (at + 1) _ _ _ tt (room_for limits.Fields n s name (at + 1) _ h)
+field_fits : (s : Scope) (n : ℕ) (f : FieldTree) → Room limits.Fields n s → Has (OneHas Free (Room limits.Fields) n) (field_means s n f)
+field_fits s n (PointerField name) h = one_name Free (Room limits.Fields) n limits.Fields s name _ _ tt (room_for limits.Fields n s name _ h)
+field_fits s n (DataField name) h = one_name Free (Room limits.Fields) n limits.Fields s name _ _ tt (room_for limits.Fields n s name _ h)
 
-pointer_fits : (s : Scope) (n at : ℕ) (name : Text) → Room limits.Shared n s → Has (OneHas Free (Room limits.Shared) n) (shared_means s n at name)
-pointer_fits s n at name h = one_name Free (Room limits.Shared) n limits.Shared s name (at + 1) _ _ _ tt (room_for limits.Shared n s name (at + 1) _ h)
+pointer_fits : (s : Scope) (n : ℕ) (name : Placed Text) → Room limits.Shared n s → Has (OneHas Free (Room limits.Shared) n) (shared_means s n name)
+pointer_fits s n name h = one_name Free (Room limits.Shared) n limits.Shared s name _ _ tt (room_for limits.Shared n s name _ h)
 
-function_fits : (s : Scope) (n at : ℕ) (f : FunctionTree) → Room limits.Calls n s → Has (OneHas Free (Room limits.Calls) n) (function_means s n at f)
-function_fits s n at (Declares name p) h = one_name Free (Room limits.Calls) n limits.Calls s name (at + 1) _ _ _ tt (room_for limits.Calls n s name (at + 1) _ h)
+function_fits : (s : Scope) (n : ℕ) (f : FunctionTree) → Room limits.Calls n s → Has (OneHas Free (Room limits.Calls) n) (function_means s n f)
+function_fits s n (Declares name p) h = one_name Free (Room limits.Calls) n limits.Calls s name _ _ tt (room_for limits.Calls n s name _ h)
 
 -- ---- auxiliary fields
 
@@ -69,28 +68,28 @@ record ValueFits (n : ℕ) (r : ℕ × Scope) : Type 0 where
   before : n < most limits.Values
   between : Between r.1
 
-record ValuesFit (n : ℕ) (r : List ℕ × Scope × ℕ) : Type 0 where
+record ValuesFit (n : ℕ) (r : List ℕ × Scope) : Type 0 where
   count : n + length r.0 ≤ most limits.Values
   between : Between r.1
 
-value_fits : (s : Scope) (g n at : ℕ) (name : Text) → n ≤ most limits.Values → Between s → Has (ValueFits n) (value_means s g n at name)
-value_fits s g n at name le h = next Between (ValueFits n) (declared s name at (Value g n)) _ (declared_between s name at (Value g n) h) (λ t k. below (ValueFits n) n (most limits.Values) _ _ le (λ less. record { before = less; between = k }))
+value_fits : (s : Scope) (g n : ℕ) (name : Placed Text) → n ≤ most limits.Values → Between s → Has (ValueFits n) (value_means s g n name)
+value_fits s g n name le h = next Between (ValueFits n) (declared s name (Value g n)) _ (declared_between s name (Value g n) h) (λ t k. below (ValueFits n) n (most limits.Values) _ _ le (λ less. record { before = less; between = k }))
 
-values_fit : (s : Scope) (g n at : ℕ) (names : List Text) → n ≤ most limits.Values → Between s → Has (ValuesFit n) (values_mean s g n at names)
-values_fit s g n at [] le h = record { count = omega arith; between = h }
-values_fit s g n at (name ∷ names) le h = next (ValueFits n) (ValuesFit n) (value_means s g n (at + 1) name) _ (value_fits s g n (at + 1) name le h) (λ first f.
-    next (ValuesFit (n + 1)) (ValuesFit n) (values_mean first.1 g (n + 1) (at + 2) names) _ (values_fit first.1 g (n + 1) (at + 2) names (omega (arith, f.before)) f.between) (λ others k.
+values_fit : (s : Scope) (g n : ℕ) (names : List (Placed Text)) → n ≤ most limits.Values → Between s → Has (ValuesFit n) (values_mean s g n names)
+values_fit s g n [] le h = record { count = omega arith; between = h }
+values_fit s g n (name ∷ names) le h = next (ValueFits n) (ValuesFit n) (value_means s g n name) _ (value_fits s g n name le h) (λ first f.
+    next (ValuesFit (n + 1)) (ValuesFit n) (values_mean first.1 g (n + 1) names) _ (values_fit first.1 g (n + 1) names (omega (arith, f.before)) f.between) (λ others k.
     record { count = omega (arith, k.count); between = k.between }))
 
 abbrev GhostFits : Ghost → Type 0
 GhostFits g = length g.values ≤ most limits.Values
 
-ghost_fits : (s : Scope) (n at : ℕ) (g : GhostTree) → Room limits.Ghosts n s → Has (OneHas GhostFits (Room limits.Ghosts) n) (ghost_means s n at g)
-ghost_fits s n at (Auxiliary name OfThreads) h = one_name GhostFits (Room limits.Ghosts) n limits.Ghosts s name (at + 1) _ _ _ (omega arith) (room_for limits.Ghosts n s name (at + 1) _ h)
-ghost_fits s n at (Auxiliary name (OneOf v vs)) h = unless (OneHas GhostFits (Room limits.Ghosts) n) (n == most limits.Ghosts) _ _ (λ few.
-    next (Room limits.Ghosts (n + 1)) (OneHas GhostFits (Room limits.Ghosts) n) (declared s name (at + 1) _) _ (room_for limits.Ghosts n s name (at + 1) _ h few) (λ t k.
-    next (ValueFits 0) (OneHas GhostFits (Room limits.Ghosts) n) (value_means t n 0 (at + 3) v) _ (value_fits t n 0 (at + 3) v (omega arith) k.between) (λ first f.
-    next (ValuesFit 1) (OneHas GhostFits (Room limits.Ghosts) n) (values_mean first.1 n 1 (at + 4) vs) _ (values_fit first.1 n 1 (at + 4) vs (omega arith) f.between) (λ others m.
+ghost_fits : (s : Scope) (n : ℕ) (g : GhostTree) → Room limits.Ghosts n s → Has (OneHas GhostFits (Room limits.Ghosts) n) (ghost_means s n g)
+ghost_fits s n (Auxiliary name OfThreads) h = one_name GhostFits (Room limits.Ghosts) n limits.Ghosts s name _ _ (omega arith) (room_for limits.Ghosts n s name _ h)
+ghost_fits s n (Auxiliary name (OneOf v vs)) h = unless (OneHas GhostFits (Room limits.Ghosts) n) (n == most limits.Ghosts) _ _ (λ few.
+    next (Room limits.Ghosts (n + 1)) (OneHas GhostFits (Room limits.Ghosts) n) (declared s name _) _ (room_for limits.Ghosts n s name _ h few) (λ t k.
+    next (ValueFits 0) (OneHas GhostFits (Room limits.Ghosts) n) (value_means t n 0 v) _ (value_fits t n 0 v (omega arith) k.between) (λ first f.
+    next (ValuesFit 1) (OneHas GhostFits (Room limits.Ghosts) n) (values_mean first.1 n 1 vs) _ (values_fit first.1 n 1 vs (omega arith) f.between) (λ others m.
     record { is = omega (arith, m.count); state = record { count = k.count; between = m.between } }))))
 
 -- ---- primitives of one step
@@ -103,28 +102,28 @@ counted_fits n has_new at (Ok None) le = omega arith
 counted_fits n has_new at (Ok (Some k)) le = below (Fewer n) n (most limits.Prims) _ _ le (λ less. unless (Fewer n) (has_new && is_new k) _ (Ok (Some k)) (λ one. omega arith))
 counted_fits n has_new at (Err e) le = both_err (Fewer n) (stands_at at e) (n == most limits.Prims) e _ e
 
-abbrev FormsFit : ℕ → List Primitive × ℕ → Type 0
-FormsFit n r = n + length r.0 ≤ most limits.Prims
+abbrev FormsFit : ℕ → List Primitive → Type 0
+FormsFit n ks = n + length ks ≤ most limits.Prims
 
 more_fits : (n : ℕ) (k : Option Primitive) (ks : List Primitive) → n + count_of k + length ks ≤ most limits.Prims → n + length (before k ks) ≤ most limits.Prims
 more_fits n None ks h = omega arith
 more_fits n (Some k) ks h = omega arith
 
-forms_fit : {X : Type 0} (means : ℕ → X → Result (Option Primitive) ParseFault) (size : X → ℕ) (n : ℕ) (has_new : Bool) (at : ℕ) (xs : List X) → n ≤ most limits.Prims → Has (FormsFit n) (forms_mean means size n has_new at xs)
-forms_fit means size n has_new at [] le = omega arith
-forms_fit means size n has_new at (x ∷ xs) le = next (Fewer n) (FormsFit n) (counted n has_new at (means at x)) _ (counted_fits n has_new at (means at x) le) (λ k f.
-    next (FormsFit (n + count_of k)) (FormsFit n) (forms_mean means size (n + count_of k) (has_new || allocates k) (at + size x + 1) xs) _ (forms_fit means size (n + count_of k) (has_new || allocates k) (at + size x + 1) xs f) (λ others m.
-    more_fits n k others.0 m))
+forms_fit : {X : Type 0} (means : X → Result (Option Primitive) ParseFault) (n : ℕ) (has_new : Bool) (xs : List (Placed X)) → n ≤ most limits.Prims → Has (FormsFit n) (forms_mean means n has_new xs)
+forms_fit means n has_new [] le = omega arith
+forms_fit means n has_new (x ∷ xs) le = next (Fewer n) (FormsFit n) (counted n has_new x.at (means x.value)) _ (counted_fits n has_new x.at (means x.value) le) (λ k f.
+    next (FormsFit (n + count_of k)) (FormsFit n) (forms_mean means (n + count_of k) (has_new || allocates k) xs) _ (forms_fit means (n + count_of k) (has_new || allocates k) xs f) (λ others m.
+    more_fits n k others m))
 
 -- ---- statements
 
 abbrev FewLabels : Scope → Type 0
 FewLabels s = length s.labels ≤ most limits.Labels
 
-label_fits : (s : Scope) (at : ℕ) (n : Text) → FewLabels s → Has (LabelRead FewLabels) (label_means s at n)
-label_fits s at n h = below (LabelRead FewLabels) (length s.labels) (most limits.Labels) _ _ h (λ less. next FewLabels (LabelRead FewLabels) (declared_label s n (at + 1)) _ (new (place_of n s.names.names) less) (λ t k. k))
+label_fits : (s : Scope) (n : Placed Text) → FewLabels s → Has (LabelRead FewLabels) (label_means s n)
+label_fits s n h = below (LabelRead FewLabels) (length s.labels) (most limits.Labels) _ _ h (λ less. next FewLabels (LabelRead FewLabels) (declared_label s n) _ (new (place_of n.value s.names.names) less) (λ t k. k))
   where
-    new : (o : Option ℕ) → length s.labels < most limits.Labels → Has FewLabels (if_new o (at + 1) (with_name s n Taken) >>= λ t. Ok (with_label t (length s.names.names)))
+    new : (o : Option ℕ) → length s.labels < most limits.Labels → Has FewLabels (if_new o n.at (with_name s n.value Taken) >>= λ t. Ok (with_label t (length s.names.names)))
     new None less = omega (arith, length-append s.labels (length s.names.names ∷ []))
     new (Some i) less = tt
 
@@ -147,18 +146,18 @@ limits_go_up = record {
 }
 
 -- statements leave in a scope what labels leave
-module _ (State : Scope → Type 0) (label_keeps : (s : Scope) (at : ℕ) (n : Text) → State s → Has (LabelRead State) (label_means s at n)) where
+module _ (State : Scope → Type 0) (label_keeps : (s : Scope) (n : Placed Text) → State s → Has (LabelRead State) (label_means s n)) where
   parts_fit : PartsHave State Limits
   parts_fit = record {
-    primitive = λ s at p h. all_have (PrimitiveHas Limits) (primitive_means s at p) one_fits;
-    atomic = λ s at ps h. weaker (FormsFit 0) (AtomicHas Limits) (atomic_means s at ps) (λ b k. omega (arith, k)) (forms_fit (primitive_means s) primitive_size 0 false at ps (omega arith));
-    call = λ s at n a h. all_have (CallHas Limits) (call_means s at n a) (λ c l. tt);
-    condition = λ s at c h. all_have Free (condition_means s at c) (λ k. tt);
+    primitive = λ s p h. all_have (PrimitiveHas Limits) (primitive_means s p) one_fits;
+    atomic = λ s ps h. weaker (FormsFit 0) (AtomicHas Limits) (atomic_means s ps) (λ b k. omega (arith, k)) (forms_fit (primitive_means s) 0 false ps (omega arith));
+    call = λ s n a h. all_have (CallHas Limits) (call_means s n a) (λ c l. tt);
+    condition = λ s c h. all_have Free (condition_means s c) (λ k. tt);
     label = label_keeps;
   }
 
-  pub statements_fit : (lines : List ℕ) (s : Scope) (in_loop : Bool) (at : ℕ) (b : BlockTree) → State s → Has (Read State StatementsFit) (statements_mean lines s in_loop at b)
-  statements_fit lines s in_loop at b h = statements_read State Limits limits_go_up parts_fit lines s in_loop at b h
+  pub statements_fit : (lines : List ℕ) (s : Scope) (in_loop : Bool) (b : BlockTree) → State s → Has (Read State StatementsFit) (statements_mean lines s in_loop b)
+  statements_fit lines s in_loop b h = statements_read State Limits limits_go_up parts_fit lines s in_loop b h
 
 -- ---- locals
 
@@ -170,9 +169,9 @@ pub record Kept (s : Scope) (x : ℕ × Scope) : Type 0 where
   pub locals : x.1.locals ≡ s.locals
   pub labels : x.1.labels ≡ s.labels
 
-pub number_keeps : (o : Option ℕ) (s : Scope) (name : Text) (at : ℕ) → Has (Kept s) (local_number o s name at)
-number_keeps None s name at = record { locals = refl; labels = refl }
-number_keeps (Some i) s name at = if_ok (Kept s) (may_name_local (slice_get s.bindings i) (has_local s.locals i)) (i, s) (faults.Duplicate at) (record { locals = refl; labels = refl })
+pub number_keeps : (o : Option ℕ) (s : Scope) (name : Placed Text) → Has (Kept s) (local_number o s name)
+number_keeps None s name = record { locals = refl; labels = refl }
+number_keeps (Some i) s name = if_ok (Kept s) (may_name_local (slice_get s.bindings i) (has_local s.locals i)) (i, s) (faults.Duplicate name.at) (record { locals = refl; labels = refl })
 
 one_more : (s : Scope) (x : ℕ × Scope) (p q : Bool) → Kept s x → length s.locals < most_locals → Few s (with_local x.1 x.0 p q)
 one_more s x p q k h =
@@ -181,52 +180,48 @@ one_more s x p q k h =
     let same : length x.1.locals ≡ length s.locals = ap length k.locals in
     record { locals = omega arith; labels = k.labels }
 
-pub local_few : (s : Scope) (name : Text) (at : ℕ) (p : Bool) → length s.locals ≤ most_locals → Has (Few s) (declared_local s name at p)
+pub local_few : (s : Scope) (name : Placed Text) (p : Bool) → length s.locals ≤ most_locals → Has (Few s) (declared_local s name p)
 unfolding declared_local
-local_few s name at p h =
+local_few s name p h =
     below (Few s) (length s.locals) most_locals _ _ h (λ less.
-    next (Kept s) (Few s) (local_number (place_of name s.names.names) s name at) _ (number_keeps (place_of name s.names.names) s name at) (λ x k. one_more s x p false k less))
+    next (Kept s) (Few s) (local_number (place_of name.value s.names.names) s name) _ (number_keeps (place_of name.value s.names.names) s name) (λ x k. one_more s x p false k less))
 
-pub parameter_few : (s : Scope) (name : Text) (at : ℕ) → length s.locals ≤ most_locals → Has (Few s) (declared_parameter s name at)
+pub parameter_few : (s : Scope) (name : Placed Text) → length s.locals ≤ most_locals → Has (Few s) (declared_parameter s name)
 unfolding declared_parameter
-parameter_few s name at h =
-    next (Kept s) (Few s) (local_number (place_of name s.names.names) s name at) _ (number_keeps (place_of name s.names.names) s name at) (λ x k.
+parameter_few s name h =
+    next (Kept s) (Few s) (local_number (place_of name.value s.names.names) s name) _ (number_keeps (place_of name.value s.names.names) s name) (λ x k.
     below (Few s) (length s.locals) most_locals _ _ h (λ less. one_more s x false true k less))
-
-abbrev FewAfter : Scope → Scope × ℕ → Type 0
-FewAfter s r = Few s r.0
 
 few_then : (s t u : Scope) → Few s t → Few t u → Few s u
 few_then s t u f g = record { locals = g.locals; labels = g.labels ∙ f.labels }
 
-others_few : (s t : Scope) (at : ℕ) (names : List Text) → Few s t → Has (FewAfter s) (others_mean t at names)
-others_few s t at [] h = h
-others_few s t at (n ∷ ns) h = next (Few t) (FewAfter s) (declared_parameter t n (at + 1)) _ (parameter_few t n (at + 1) h.locals) (λ u few. others_few s u (at + 2) ns (few_then s t u h few))
+parameters_few : (s t : Scope) (names : List (Placed Text)) → Few s t → Has (Few s) (parameters_mean t names)
+parameters_few s t [] h = h
+parameters_few s t (n ∷ ns) h = next (Few t) (Few s) (declared_parameter t n) _ (parameter_few t n h.locals) (λ u few. parameters_few s u ns (few_then s t u h few))
 
-parameters_few : (s t : Scope) (at : ℕ) (names : List Text) → Few s t → Has (FewAfter s) (parameters_mean t at names)
-parameters_few s t at [] h = h
-parameters_few s t at (n ∷ ns) h = next (Few t) (FewAfter s) (declared_parameter t n at) _ (parameter_few t n at h.locals) (λ u few. others_few s u (at + 1) ns (few_then s t u h few))
+pub one_local_few : (s : Scope) (l : FieldTree) → length s.locals ≤ most_locals → Has (Few s) (local_means s l)
+one_local_few s (PointerField name) h = local_few s name true h
+one_local_few s (DataField name) h = local_few s name false h
 
-pub one_local_few : (s : Scope) (at : ℕ) (l : FieldTree) → length s.locals ≤ most_locals → Has (Few s) (local_means s at l)
-one_local_few s at (PointerField name) h = local_few s name (at + 1) true h
-one_local_few s at (DataField name) h = local_few s name (at + 1) false h
-
-locals_few : (s t : Scope) (at : ℕ) (ls : List FieldTree) → Few s t → Has (FewAfter s) (locals_mean t at ls)
-locals_few s t at [] h = h
-locals_few s t at (l ∷ ls) h = next (Few t) (FewAfter s) (local_means t at l) _ (one_local_few t at l h.locals) (λ u few. locals_few s u (at + 3) ls (few_then s t u h few))
+locals_few : (s t : Scope) (ls : List FieldTree) → Few s t → Has (Few s) (locals_mean t ls)
+locals_few s t [] h = h
+locals_few s t (l ∷ ls) h = next (Few t) (Few s) (local_means t l) _ (one_local_few t l h.locals) (λ u few. locals_few s u ls (few_then s t u h few))
 
 -- ---- operations
 
-op_fits : (lines : List ℕ) (s : Scope) (n at : ℕ) (o : OpTree) → Room limits.Ops n s → Has (OneHas OpFits (Room limits.Ops) n) (op_means lines s n at o)
-op_fits lines s n at (Operates name ps ls b) h =
-    unless (OneHas OpFits (Room limits.Ops) n) (n == most limits.Ops) _ _ (λ few.
-    next (Room limits.Ops (n + 1)) (OneHas OpFits (Room limits.Ops) n) (declared s name (at + 1) Taken) _ (room_for limits.Ops n s name (at + 1) Taken h few) (λ t k.
-    let count : length t.locals ≡ 0 = ap length k.between.locals in
-    next (FewAfter t) (OneHas OpFits (Room limits.Ops) n) (parameters_mean t (at + 3) ps) _ (parameters_few t t (at + 3) ps (record { locals = omega arith; labels = refl })) (λ p kept.
-    next (FewAfter t) (OneHas OpFits (Room limits.Ops) n) (locals_mean p.0 (p.1 + 2) ls) _ (locals_few t p.0 (p.1 + 2) ls kept) (λ l fewer.
-    let same : length l.0.labels ≡ length t.labels = ap length fewer.labels in
-    next (Read FewLabels StatementsFit) (OneHas OpFits (Room limits.Ops) n) (statements_mean lines l.0 false l.1 b) _ (statements_fit FewLabels label_fits lines l.0 false l.1 b (omega (arith, k.between.labels))) (λ body f.
-    record { is = record { locals = fewer.locals; body = f.is }; state = record { count = k.count; between = record { locals = refl; labels = f.state } } })))))
+op_fits : (lines : List ℕ) (s : Scope) (n : ℕ) (o : Placed OpTree) → Room limits.Ops n s → Has (OneHas OpFits (Room limits.Ops) n) (placed_op_means lines s n o)
+op_fits lines s n o h = on_line (line_at lines o.at) o.value
+  where
+    on_line : (line : ℕ) (o : OpTree) → Has (OneHas OpFits (Room limits.Ops) n) (op_means lines line s n o)
+    on_line line (Operates name ps ls b) =
+        unless (OneHas OpFits (Room limits.Ops) n) (n == most limits.Ops) _ _ (λ few.
+        next (Room limits.Ops (n + 1)) (OneHas OpFits (Room limits.Ops) n) (declared s name Taken) _ (room_for limits.Ops n s name Taken h few) (λ t k.
+        let count : length t.locals ≡ 0 = ap length k.between.locals in
+        next (Few t) (OneHas OpFits (Room limits.Ops) n) (parameters_mean t ps) _ (parameters_few t t ps (record { locals = omega arith; labels = refl })) (λ p kept.
+        next (Few t) (OneHas OpFits (Room limits.Ops) n) (locals_mean p ls) _ (locals_few t p ls kept) (λ l fewer.
+        let same : length l.labels ≡ length t.labels = ap length fewer.labels in
+        next (Read FewLabels StatementsFit) (OneHas OpFits (Room limits.Ops) n) (statements_mean lines l false b) _ (statements_fit FewLabels label_fits lines l false b (omega (arith, k.between.labels))) (λ body f.
+        record { is = record { locals = fewer.locals; body = f.is }; state = record { count = k.count; between = record { locals = refl; labels = f.state } } })))))
 
 -- ---- the file
 
@@ -234,22 +229,22 @@ op_fits lines s n at (Operates name ps ls b) h =
 abbrev Fits : FileUnit → Type 0
 Fits u = FileFits u.file
 
-init_fits : (s : Scope) (at : ℕ) (starts : Option (List InitialTree)) → Has (FormsFit 0) (init_means s at starts)
-init_fits s at None = omega arith
-init_fits s at (Some is) = next (FormsFit 0) (FormsFit 0) (initials_mean s (at + 2) is) _ (forms_fit (initial_means s) initial_size 0 false (at + 2) is (omega arith)) (λ b f. f)
+init_fits : (s : Scope) (starts : Option (List (Placed InitialTree))) → Has (FormsFit 0) (init_means s starts)
+init_fits s None = omega arith
+init_fits s (Some is) = forms_fit (initial_means s) 0 false is (omega arith)
 
 unit_fits : (lines : List ℕ) (f : FileTree) → Has Fits (file_means lines f)
 unfolding file_means
 unit_fits lines f =
-    next Between Fits (declared first_scope f.name 1 Taken) _ (declared_between first_scope f.name 1 Taken (record { locals = refl; labels = omega arith })) (λ s none.
-    next (EachHas Free (Room limits.Fields) 0) Fits (listed field_means s 0 3 f.fields) _ (each_has field_means Free (Room limits.Fields) field_fits s 0 3 f.fields (room none)) (λ fields a.
-    next (EachHas Free (Room limits.Shared) 0) Fits (listed shared_means fields.1 0 (fields.2 + 1) f.pointers) _ (each_has shared_means Free (Room limits.Shared) pointer_fits fields.1 0 (fields.2 + 1) f.pointers (room a.state.between)) (λ pointers b.
-    next (EachHas Free (Room limits.Calls) 0) Fits (listed function_means pointers.1 0 pointers.2 f.functions) _ (each_has function_means Free (Room limits.Calls) function_fits pointers.1 0 pointers.2 f.functions (room b.state.between)) (λ functions c.
-    any Fits (watch_means functions.1 functions.2 f.watched) _ (λ observer.
-    next (EachHas GhostFits (Room limits.Ghosts) 0) Fits (listed ghost_means functions.1 0 observer.1 f.ghosts) _ (each_has ghost_means GhostFits (Room limits.Ghosts) ghost_fits functions.1 0 observer.1 f.ghosts (room c.state.between)) (λ ghosts d.
-    next (FormsFit 0) Fits (init_means ghosts.1 ghosts.2 f.starts) _ (init_fits ghosts.1 ghosts.2 f.starts) (λ starts i.
-    next (EachHas OpFits (Room limits.Ops) 0) Fits (listed (op_means lines) ghosts.1 0 starts.1 f.ops) _ (each_has (op_means lines) OpFits (Room limits.Ops) (op_fits lines) ghosts.1 0 starts.1 f.ops (room d.state.between)) (λ ops m.
-    any Fits (outlined_means ops.1 ops.0 ops.2 f.outlined) _ (λ outline.
+    next Between Fits (declared first_scope f.name Taken) _ (declared_between first_scope f.name Taken (record { locals = refl; labels = omega arith })) (λ s none.
+    next (EachHas Free (Room limits.Fields) 0) Fits (listed field_means s 0 f.fields) _ (each_has field_means Free (Room limits.Fields) field_fits s 0 f.fields (room none)) (λ fields a.
+    next (EachHas Free (Room limits.Shared) 0) Fits (listed shared_means fields.1 0 f.pointers) _ (each_has shared_means Free (Room limits.Shared) pointer_fits fields.1 0 f.pointers (room a.state.between)) (λ pointers b.
+    next (EachHas Free (Room limits.Calls) 0) Fits (listed function_means pointers.1 0 f.functions) _ (each_has function_means Free (Room limits.Calls) function_fits pointers.1 0 f.functions (room b.state.between)) (λ functions c.
+    any Fits (watch_means functions.1 f.watched) _ (λ observer.
+    next (EachHas GhostFits (Room limits.Ghosts) 0) Fits (listed ghost_means functions.1 0 f.ghosts) _ (each_has ghost_means GhostFits (Room limits.Ghosts) ghost_fits functions.1 0 f.ghosts (room c.state.between)) (λ ghosts d.
+    next (FormsFit 0) Fits (init_means ghosts.1 f.starts) _ (init_fits ghosts.1 f.starts) (λ starts i.
+    next (EachHas OpFits (Room limits.Ops) 0) Fits (listed (placed_op_means lines) ghosts.1 0 f.ops) _ (each_has (placed_op_means lines) OpFits (Room limits.Ops) (op_fits lines) ghosts.1 0 f.ops (room d.state.between)) (λ ops m.
+    any Fits (outlined_means ops.1 ops.0 f.outlined) _ (λ outline.
     record {
       fields = omega (arith, a.state.count);
       shared = omega (arith, b.state.count);

@@ -3,7 +3,7 @@ use Rattle.std.proofs.Common.{◌≡◌, ◌⊎◌, inl, inr, ◌+◌, ◌*◌, 
 use Rattle.std.proofs.lemmas.List.{length-append}
 use Rattle.std.proofs.lemmas.Nat.{mul-le}
 use Rattle.plc_base.specs.Names.{place_of}
-use Rattle.plc_syntax.specs.Trees.{Text}
+use Rattle.plc_syntax.specs.Trees.{Text, Placed}
 use Rattle.plc_scope.specs.declared.scope.Scope.{Scope}
 use Rattle.plc_scope.specs.declared.binding.Binding.{Binding}
 use Rattle.plc_scope.specs.declared.binding.Binding.TheVariants.{Taken}
@@ -16,33 +16,33 @@ use Rattle.plc_scope.proofs.Holds.{has_along}
 use Rattle.plc_parse.proofs.Fits.{Few, parameter_few, local_few}
 
 -- a name's declaration is no local's and no label's
-pub declared_lists : (s t : Scope) (name : Text) (at : ℕ) (b : Binding) → declared s name at b ≡ Ok t → KeepsLists s t
-declared_lists s t name at b e = new (place_of name s.names.names) e
+pub declared_lists : (s t : Scope) (name : Placed Text) (b : Binding) → declared s name b ≡ Ok t → KeepsLists s t
+declared_lists s t name b e = new (place_of name.value s.names.names) e
   where
-    new : (o : Option ℕ) → if_new o at (with_name s name b) ≡ Ok t → KeepsLists s t
-    new None e = let same : with_name s name b ≡ t = cc in rw (← same) (record { locals = refl; labels = refl })
+    new : (o : Option ℕ) → if_new o name.at (with_name s name.value b) ≡ Ok t → KeepsLists s t
+    new None e = let same : with_name s name.value b ≡ t = cc in rw (← same) (record { locals = refl; labels = refl })
     new (Some i) e = absurd cc
 
 -- a parameter is no label
-pub parameter_labels : (s t : Scope) (name : Text) (at : ℕ) → declared_parameter s name at ≡ Ok t → HasRoomForLocals s → t.labels ≡ s.labels
-parameter_labels s t name at e h = (has_along (Few s) (declared_parameter s name at) t e (parameter_few s name at h.locals)).labels
+pub parameter_labels : (s t : Scope) (name : Placed Text) → declared_parameter s name ≡ Ok t → HasRoomForLocals s → t.labels ≡ s.labels
+parameter_labels s t name e h = (has_along (Few s) (declared_parameter s name) t e (parameter_few s name h.locals)).labels
 
 -- nor is a local
-pub local_labels : (s t : Scope) (name : Text) (at : ℕ) (p : Bool) → declared_local s name at p ≡ Ok t → HasRoomForLocals s → t.labels ≡ s.labels
-local_labels s t name at p e h = (has_along (Few s) (declared_local s name at p) t e (local_few s name at p h.locals)).labels
+pub local_labels : (s t : Scope) (name : Placed Text) (p : Bool) → declared_local s name p ≡ Ok t → HasRoomForLocals s → t.labels ≡ s.labels
+local_labels s t name p e h = (has_along (Few s) (declared_local s name p) t e (local_few s name p h.locals)).labels
 
 -- a label is one name
-pub labelled : (s t : Scope) (name : Text) (at : ℕ) → declared_label s name at ≡ Ok t → CanLabel s → length s.labels < most_labels → GrowsByLabels s t
-labelled s t name at e h less = new (place_of name s.names.names) e
+pub labelled : (s t : Scope) (name : Placed Text) → declared_label s name ≡ Ok t → CanLabel s → length s.labels < most_labels → GrowsByLabels s t
+labelled s t name e h less = new (place_of name.value s.names.names) e
   where
     number : ℕ
     number = length s.names.names
 
-    new : (o : Option ℕ) → (if_new o at (with_name s name Taken) >>= λ u. Ok (with_label u number)) ≡ Ok t → GrowsByLabels s t
+    new : (o : Option ℕ) → (if_new o name.at (with_name s name.value Taken) >>= λ u. Ok (with_label u number)) ≡ Ok t → GrowsByLabels s t
     new None e =
-        let same : with_label (with_name s name Taken) number ≡ t = cc in
+        let same : with_label (with_name s name.value Taken) number ≡ t = cc in
         let labels : length (s.labels ++ number ∷ []) ≡ length s.labels + 1 = length-append s.labels (number ∷ []) in
-        let names : length (s.names.names ++ name ∷ []) ≡ length s.names.names + 1 = length-append s.names.names (name ∷ []) in
+        let names : length (s.names.names ++ name.value ∷ []) ≡ length s.names.names + 1 = length-append s.names.names (name.value ∷ []) in
         rw (← same) (record { locals = refl; labels = omega arith; names = omega arith; limit = refl })
     new (Some i) e = absurd cc
 

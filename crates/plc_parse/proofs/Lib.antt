@@ -3,7 +3,6 @@ pub mod Fits
 pub mod Grouped
 pub mod Growth
 pub mod Holds
-pub mod Lengths
 pub mod Loops
 pub mod Marked
 pub mod Naming

@@ -3,7 +3,8 @@
 use Rattle.std.proofs.Common.{◌≡◌, ◌∙◌, ◌+◌, ◌||◌, ℕ, Bool, List, [], ◌∷◌, ◌++◌, map, length, Option, Some, None, Result, Ok}
 use Rattle.std.proofs.Common.{Err, refl, sym, ap, append_assoc, arith}
 use Rattle.std.proofs.lemmas.List.{append-nil, length-append}
-use Rattle.plc_syntax.specs.Views.{field_tree}
+use Rattle.plc_syntax.specs.Views.{placed_as, field_tree}
+use Rattle.plc_syntax.specs.declared.form.Placed.{Placed}
 use Rattle.plc_syntax.specs.declared.form.Declaration.{Declaration}
 use Rattle.plc_lang.specs.declared.syntax.Line.{Line}
 use Rattle.plc_lang.specs.declared.syntax.Primitive.{Primitive}
@@ -14,12 +15,12 @@ use Rattle.plc_scope.specs.declared.scope.Scope.{Scope}
 use Rattle.plc_scope.specs.Scope.{◌>>=◌}
 use Rattle.plc_scope.proofs.Sequence.{bind_joins}
 use Rattle.plc_scope.proofs.Turns.{ahead}
-use Rattle.plc_syntax.specs.Trees.{Text, BlockTree}
+use Rattle.plc_syntax.specs.Trees.{Text, Placed as PlacedTree, BlockTree}
 use Rattle.plc_tree.specs.declared.tree.Stmt.{Stmt}
 use Rattle.plc_tree.specs.Views.{statement_tree, block_tree, ors_tree}
 use Rattle.plc_parse.specs.Meaning.{counted, count_of, allocates, before, forms_mean, line_at, statement_means}
-use Rattle.plc_parse.specs.Meaning.{statements_mean, or_means, value_means, values_mean, listed, others_mean, local_means}
-use Rattle.plc_parse.specs.Meaning.{locals_mean}
+use Rattle.plc_parse.specs.Meaning.{statements_mean, or_means, value_means, values_mean, listed, local_means}
+use Rattle.plc_parse.specs.Meaning.{parameters_mean, locals_mean}
 use Rattle.plc_parse.specs.Views.{with_form}
 use Rattle.plc_scope.specs.Scope.{declared_parameter}
 
@@ -39,46 +40,46 @@ pub all_lines : (ls : List Line) → lines_before ls Empty ≡ block_of ls
 all_lines [] = refl
 all_lines (k ∷ ks) = ap (Then k.line (statement_of k.stmt)) (all_lines ks)
 
--- the statements of a block, with the scope and the place after them
+-- the statements of a block, with the scope after them
 abbrev pub Block : Type 0
-Block = Statements × Scope × ℕ
+Block = Statements × Scope
 
 abbrev pub line_made : ℕ × Statement → Block → Block
-line_made x b = (Then x.0 x.1 b.0, b.1, b.2)
+line_made x b = (Then x.0 x.1 b.0, b.1)
 
 abbrev pub lines_made : List Line → Block → Block
-lines_made ls b = (lines_before ls b.0, b.1, b.2)
+lines_made ls b = (lines_before ls b.0, b.1)
 
--- the blocks of a choice, with the scope and the place after them
+-- the blocks of a choice, with the scope after them
 abbrev pub Choices : Type 0
-Choices = Blocks × Scope × ℕ
+Choices = Blocks × Scope
 
 abbrev pub block_made : Statements → Choices → Choices
-block_made x b = (And x b.0, b.1, b.2)
+block_made x b = (And x b.0, b.1)
 
 module _ (lines : List ℕ) (in_loop : Bool) where
-  abbrev pub statements_from : Scope × ℕ → List Stmt → Result (Statements × Scope × ℕ) ParseFault
-  statements_from s ss = statements_mean lines s.0 in_loop s.1 (block_tree ss)
+  abbrev pub statements_from : Scope → List (Placed Stmt) → Result Block ParseFault
+  statements_from s ss = statements_mean lines s in_loop (block_tree ss)
 
-  abbrev pub one_statement : Scope × ℕ → Stmt → Result ((ℕ × Statement) × (Scope × ℕ)) ParseFault
-  one_statement s x = statement_means lines s.0 in_loop s.1 (statement_tree x)
-      >>= λ f. Ok ((line_at lines s.1, f.0), (f.1, f.2))
+  abbrev pub one_statement : Scope → Placed Stmt → Result ((ℕ × Statement) × Scope) ParseFault
+  one_statement s x = statement_means lines s in_loop x.at (statement_tree x.value)
+      >>= λ f. Ok ((line_at lines x.at, f.0), f.1)
 
-  pub statements_go : (s : Scope × ℕ) (x : Stmt) (xs : List Stmt) → statements_from s (x ∷ xs)
+  pub statements_go : (s : Scope) (x : Placed Stmt) (xs : List (Placed Stmt)) → statements_from s (x ∷ xs)
       ≡ (one_statement s x >>= λ f. statements_from f.1 xs >>= λ o. Ok (line_made f.0 o))
-  statements_go s x xs = sym (bind_joins (statement_means lines s.0 in_loop s.1 (statement_tree x)) _ _)
+  statements_go s x xs = sym (bind_joins (statement_means lines s in_loop x.at (statement_tree x.value)) _ _)
 
   -- ---- the blocks of a choice
 
-  abbrev pub ors_from : Scope × ℕ → List BlockTree → Result (Blocks × Scope × ℕ) ParseFault
-  ors_from s bs = or_means lines s.0 in_loop s.1 (ors_tree bs)
+  abbrev pub ors_from : Scope → List BlockTree → Result Choices ParseFault
+  ors_from s bs = or_means lines s in_loop (ors_tree bs)
 
-  abbrev pub one_block : Scope × ℕ → BlockTree → Result (Statements × (Scope × ℕ)) ParseFault
-  one_block s b = statements_mean lines s.0 in_loop (s.1 + 2) b >>= λ x. Ok (x.0, (x.1, x.2 + 1))
+  abbrev pub one_block : Scope → BlockTree → Result Block ParseFault
+  one_block s b = statements_mean lines s in_loop b
 
-  pub ors_go : (s : Scope × ℕ) (b : BlockTree) (bs : List BlockTree) → ors_from s (b ∷ bs)
+  pub ors_go : (s : Scope) (b : BlockTree) (bs : List BlockTree) → ors_from s (b ∷ bs)
       ≡ (one_block s b >>= λ f. ors_from f.1 bs >>= λ o. Ok (block_made f.0 o))
-  ors_go s b bs = sym (bind_joins (statements_mean lines s.0 in_loop (s.1 + 2) b) _ _)
+  ors_go s b bs = refl
 
 -- blocks before others
 abbrev pub blocks_before : List Statements → Blocks → Blocks
@@ -86,7 +87,7 @@ blocks_before [] b = b
 blocks_before (x ∷ xs) b = And x (blocks_before xs b)
 
 abbrev pub blocks_made : List Statements → Choices → Choices
-blocks_made xs b = (blocks_before xs b.0, b.1, b.2)
+blocks_made xs b = (blocks_before xs b.0, b.1)
 
 pub one_block_more : (xs : List Statements) (x : Statements) (b : Blocks)
     → blocks_before (xs ++ x ∷ []) b ≡ blocks_before xs (And x b)
@@ -101,118 +102,108 @@ all_blocks (x ∷ xs) = ap (And x) (all_blocks xs)
 
 module _ (lines : List ℕ) (in_loop : Bool) where
   -- the lines made and those from a place on are a whole block's
-  abbrev pub LinesAreAhead : List Line → Scope × ℕ → List Stmt → Scope × ℕ → List Stmt → Type 0
-  LinesAreAhead made at rest start whole =
+  abbrev pub LinesAreAhead : List Line → Scope → List (Placed Stmt) → Scope → List (Placed Stmt) → Type 0
+  LinesAreAhead made now rest start whole =
       ahead (statements_from lines in_loop) (one_statement lines in_loop) line_made lines_made
-      (statements_go lines in_loop) made (statements_from lines in_loop at rest)
+      (statements_go lines in_loop) made (statements_from lines in_loop now rest)
       ≡ statements_from lines in_loop start whole
 
   -- the blocks before others, as those that were made
-  abbrev pub with_blocks : List Statements → Result (Blocks × Scope × ℕ) ParseFault → Result (Blocks × Scope × ℕ) ParseFault
+  abbrev pub with_blocks : List Statements → Result Choices ParseFault → Result Choices ParseFault
   with_blocks = ahead (ors_from lines in_loop) (one_block lines in_loop) block_made blocks_made (ors_go lines in_loop)
 
   -- the blocks made and those from a place on are the first ones and all others
-  abbrev pub BlocksAreAhead : List Statements → Scope × ℕ → List BlockTree → List Statements → Scope × ℕ → List BlockTree
+  abbrev pub BlocksAreAhead : List Statements → Scope → List BlockTree → List Statements → Scope → List BlockTree
       → Type 0
-  BlocksAreAhead made at rest first start whole =
-      with_blocks made (ors_from lines in_loop at rest) ≡ with_blocks first (ors_from lines in_loop start whole)
+  BlocksAreAhead made now rest first start whole =
+      with_blocks made (ors_from lines in_loop now rest) ≡ with_blocks first (ors_from lines in_loop start whole)
 
 -- ---- declarations
 
--- the scope, how many stand before, and the place
+-- the scope, and how many stand before
 abbrev pub Before : Type 0
-Before = Scope × ℕ × ℕ
+Before = Scope × ℕ
 
--- what was declared, with the scope and the place after it
+-- what was declared, with the scope after it
 abbrev pub Declared : Type 0 → Type 0
-Declared Y = List Y × Scope × ℕ
+Declared Y = List Y × Scope
 
 abbrev pub one_declared : {Y : Type 0} → Y → Declared Y → Declared Y
-one_declared y o = (y ∷ o.0, o.1, o.2)
+one_declared y o = (y ∷ o.0, o.1)
 
 abbrev pub all_declared : {Y : Type 0} → List Y → Declared Y → Declared Y
-all_declared ys o = (ys ++ o.0, o.1, o.2)
+all_declared ys o = (ys ++ o.0, o.1)
 
-module _ {F X Y : Type 0} (means : Scope → ℕ → ℕ → X → Result (Y × Scope × ℕ) ParseFault) (tree : F → X) where
-  abbrev pub listed_from : Before → List F → Result (List Y × Scope × ℕ) ParseFault
-  listed_from s xs = listed means s.0 s.1 s.2 (map tree xs)
+module _ {F X Y : Type 0} (means : Scope → ℕ → X → Result (Y × Scope) ParseFault) (tree : F → X) where
+  abbrev pub listed_from : Before → List F → Result (Declared Y) ParseFault
+  listed_from s xs = listed means s.0 s.1 (map tree xs)
 
   abbrev pub one_listed : Before → F → Result (Y × Before) ParseFault
-  one_listed s x = means s.0 s.1 s.2 (tree x) >>= λ f. Ok (f.0, (f.1, s.1 + 1, f.2))
+  one_listed s x = means s.0 s.1 (tree x) >>= λ f. Ok (f.0, (f.1, s.1 + 1))
 
   pub listed_go : (s : Before) (x : F) (xs : List F) → listed_from s (x ∷ xs)
       ≡ (one_listed s x >>= λ f. listed_from f.1 xs >>= λ o. Ok (one_declared f.0 o))
-  listed_go s x xs = sym (bind_joins (means s.0 s.1 s.2 (tree x)) _ _)
+  listed_go s x xs = sym (bind_joins (means s.0 s.1 (tree x)) _ _)
 
-module _ {N : Type 0} (g : ℕ) (text : N → Text) where
-  abbrev pub values_from : Before → List N → Result (List ℕ × Scope × ℕ) ParseFault
-  values_from s ns = values_mean s.0 g s.1 s.2 (map text ns)
+module _ {N : Type 0} (g : ℕ) (name : N → PlacedTree Text) where
+  abbrev pub values_from : Before → List N → Result (Declared ℕ) ParseFault
+  values_from s ns = values_mean s.0 g s.1 (map name ns)
 
   abbrev pub one_value : Before → N → Result (ℕ × Before) ParseFault
-  one_value s n = value_means s.0 g s.1 (s.2 + 1) (text n) >>= λ f. Ok (f.0, (f.1, s.1 + 1, s.2 + 2))
+  one_value s n = value_means s.0 g s.1 (name n) >>= λ f. Ok (f.0, (f.1, s.1 + 1))
 
   pub values_go : (s : Before) (n : N) (ns : List N) → values_from s (n ∷ ns)
       ≡ (one_value s n >>= λ f. values_from f.1 ns >>= λ o. Ok (one_declared f.0 o))
-  values_go s n ns = sym (bind_joins (value_means s.0 g s.1 (s.2 + 1) (text n)) _ _)
+  values_go s n ns = sym (bind_joins (value_means s.0 g s.1 (name n)) _ _)
 
 -- one more at the end
 pub one_more : {Y : Type 0} (ys zs : List Y) (y : Y) → zs ≡ ys ++ y ∷ [] → (o : Declared Y)
     → all_declared zs o ≡ all_declared ys (one_declared y o)
-one_more ys zs y e o = ap (λ ws. (ws, o.1, o.2)) (ap (λ ws. ws ++ o.0) e ∙ append_assoc ys (y ∷ []) o.0)
+one_more ys zs y e o = ap (λ ws. (ws, o.1)) (ap (λ ws. ws ++ o.0) e ∙ append_assoc ys (y ∷ []) o.0)
 
-pub all_of : {Y : Type 0} (ys : List Y) (s : Scope) (at : ℕ) → all_declared ys ([], s, at) ≡ (ys, s, at)
-all_of ys s at = ap (λ ws. (ws, s, at)) (append-nil ys)
+pub all_of : {Y : Type 0} (ys : List Y) (s : Scope) → all_declared ys ([], s) ≡ (ys, s)
+all_of ys s = ap (λ ws. (ws, s)) (append-nil ys)
 
 -- ---- parameters and locals
 
-module _ {N : Type 0} (text : N → Text) where
-  abbrev pub others_from : Scope × ℕ → List N → Result (Scope × ℕ) ParseFault
-  others_from s ns = others_mean s.0 s.1 (map text ns)
+module _ {N : Type 0} (name : N → PlacedTree Text) where
+  abbrev pub parameters_from : Scope → List N → Result Scope ParseFault
+  parameters_from s ns = parameters_mean s (map name ns)
 
-  abbrev pub one_other : Scope × ℕ → N → Result (Scope × ℕ) ParseFault
-  one_other s n = declared_parameter s.0 (text n) (s.1 + 1) >>= λ t. Ok (t, s.1 + 2)
+  abbrev pub one_parameter : Scope → N → Result Scope ParseFault
+  one_parameter s n = declared_parameter s (name n)
 
-  pub others_go : (s : Scope × ℕ) (n : N) (ns : List N)
-      → others_from s (n ∷ ns) ≡ (one_other s n >>= λ t. others_from t ns)
-  others_go s n ns = sym (bind_joins (declared_parameter s.0 (text n) (s.1 + 1)) _ _)
+  pub parameters_go : (s : Scope) (n : N) (ns : List N)
+      → parameters_from s (n ∷ ns) ≡ (one_parameter s n >>= λ t. parameters_from t ns)
+  parameters_go s n ns = refl
 
-abbrev pub locals_from : Scope × ℕ → List Declaration → Result (Scope × ℕ) ParseFault
-locals_from s ls = locals_mean s.0 s.1 (map field_tree ls)
+abbrev pub locals_from : Scope → List Declaration → Result Scope ParseFault
+locals_from s ls = locals_mean s (map field_tree ls)
 
-abbrev pub one_local : Scope × ℕ → Declaration → Result (Scope × ℕ) ParseFault
-one_local s l = local_means s.0 s.1 (field_tree l) >>= λ t. Ok (t, s.1 + 3)
+abbrev pub one_local : Scope → Declaration → Result Scope ParseFault
+one_local s l = local_means s (field_tree l)
 
-pub locals_go : (s : Scope × ℕ) (l : Declaration) (ls : List Declaration)
+pub locals_go : (s : Scope) (l : Declaration) (ls : List Declaration)
     → locals_from s (l ∷ ls) ≡ (one_local s l >>= λ t. locals_from t ls)
-locals_go s l ls = sym (bind_joins (local_means s.0 s.1 (field_tree l)) _ _)
+locals_go s l ls = refl
 
 -- ---- primitives of a step
 
--- how many there are, whether one of them allocates, and the place
+-- how many there are, and whether one of them allocates
 abbrev pub Forms : Type 0
-Forms = ℕ × Bool × ℕ
+Forms = ℕ × Bool
 
--- primitives, with the place after them
-abbrev pub Made : Type 0
-Made = List Primitive × ℕ
+module _ {F X : Type 0} (means : X → Result (Option Primitive) ParseFault) (tree : F → X) where
+  abbrev pub forms_from : Forms → List (Placed F) → Result (List Primitive) ParseFault
+  forms_from s xs = forms_mean means s.0 s.1 (map (placed_as tree) xs)
 
-abbrev pub form_made : Option Primitive → Made → Made
-form_made k o = (before k o.0, o.1)
+  abbrev pub one_form : Forms → Placed F → Result (Option Primitive × Forms) ParseFault
+  one_form s x = counted s.0 s.1 x.at (means (tree x.value))
+      >>= λ k. Ok (k, (s.0 + count_of k, s.1 || allocates k))
 
-abbrev pub forms_made : List Primitive → Made → Made
-forms_made ks o = (ks ++ o.0, o.1)
-
-module _ {F X : Type 0} (means : ℕ → X → Result (Option Primitive) ParseFault) (size : X → ℕ) (tree : F → X) where
-  abbrev pub forms_from : Forms → List F → Result (List Primitive × ℕ) ParseFault
-  forms_from s xs = forms_mean means size s.0 s.1 s.2 (map tree xs)
-
-  abbrev pub one_form : Forms → F → Result (Option Primitive × Forms) ParseFault
-  one_form s x = counted s.0 s.1 s.2 (means s.2 (tree x))
-      >>= λ k. Ok (k, (s.0 + count_of k, s.1 || allocates k, s.2 + size (tree x) + 1))
-
-  pub forms_go : (s : Forms) (x : F) (xs : List F) → forms_from s (x ∷ xs)
-      ≡ (one_form s x >>= λ f. forms_from f.1 xs >>= λ o. Ok (form_made f.0 o))
-  forms_go s x xs = sym (bind_joins (counted s.0 s.1 s.2 (means s.2 (tree x))) _ _)
+  pub forms_go : (s : Forms) (x : Placed F) (xs : List (Placed F)) → forms_from s (x ∷ xs)
+      ≡ (one_form s x >>= λ f. forms_from f.1 xs >>= λ o. Ok (before f.0 o))
+  forms_go s x xs = sym (bind_joins (counted s.0 s.1 x.at (means (tree x.value))) _ _)
 
 -- a primitive, if there is one, at the end
 pub one_form_more : (ks : List Primitive) (k : Option Primitive) (r : List Primitive)

@@ -9,8 +9,7 @@ use Rattle.plc_lang.specs.declared.syntax.Primitive.{Primitive}
 use Rattle.plc_lang.specs.declared.syntax.Op.{Op}
 use Rattle.plc_lang.specs.Labels.{label_or_none, statement_labels, block_labels, blocks_labels, labels_by_op}
 use Rattle.plc_lang.specs.Statements.{Statement, Statements, Blocks}
-use Rattle.plc_syntax.specs.Trees.{Text, StatementTree, PrimitiveStatement, AtomicStatement, CallStatement, IfStatement, ChooseStatement, LoopStatement, BreakStatement, ReturnStatement, LabelStatement, BlockTree, NoStatement, Then as ThenStatement, ElseTree, NoElse, ElseBlock, OrTree, NoOr, OrBlock}
-use Rattle.plc_syntax.specs.Sizes.{condition_size, call_size}
+use Rattle.plc_syntax.specs.Trees.{Text, Placed, StatementTree, PrimitiveStatement, AtomicStatement, CallStatement, IfStatement, ChooseStatement, LoopStatement, BreakStatement, ReturnStatement, LabelStatement, BlockTree, NoStatement, Then as ThenStatement, ElseTree, NoElse, ElseBlock, OrTree, NoOr, OrBlock}
 use Rattle.plc_scope.specs.declared.scope.Scope.{Scope}
 use Rattle.plc_scope.specs.declared.binding.Binding.TheVariants.{Taken}
 use Rattle.plc_scope.specs.Scope.{◌>>=◌, if_new, with_name, with_label}
@@ -53,7 +52,7 @@ numbered_range n xs h = let same : length xs ≡ n = omega (arith, h.end) in are
 -- ---- statements
 
 -- what was read has the labels that were declared with it
-abbrev pub LabelsRead : {Y : Type 0} → (Y → List ℕ) → Scope → Y × Scope × ℕ → Type 0
+abbrev pub LabelsRead : {Y : Type 0} → (Y → List ℕ) → Scope → Y × Scope → Type 0
 LabelsRead labels_of s r = Numbered (length s.labels) (length r.1.labels) (labels_of r.0)
 
 abbrev OneNumbered : Scope → ℕ × Scope → Type 0
@@ -62,63 +61,63 @@ OneNumbered s r = Numbered (length s.labels) (length r.1.labels) (r.0 ∷ [])
 abbrev MaybeNumbered : Scope → Option ℕ × Scope → Type 0
 MaybeNumbered s r = Numbered (length s.labels) (length r.1.labels) (label_or_none r.0)
 
-label_numbered : (s : Scope) (at : ℕ) (n : Text) → Has (OneNumbered s) (label_means s at n)
-label_numbered s at n = unless (OneNumbered s) (length s.labels == most limits.Labels) _ _ (λ few. new (place_of n s.names.names))
+label_numbered : (s : Scope) (n : Placed Text) → Has (OneNumbered s) (label_means s n)
+label_numbered s n = unless (OneNumbered s) (length s.labels == most limits.Labels) _ _ (λ few. new (place_of n.value s.names.names))
   where
-    new : (o : Option ℕ) → Has (OneNumbered s) ((if_new o (at + 1) (with_name s n Taken) >>= λ t. Ok (with_label t (length s.names.names))) >>= λ t. Ok (length s.labels, t))
+    new : (o : Option ℕ) → Has (OneNumbered s) ((if_new o n.at (with_name s n.value Taken) >>= λ t. Ok (with_label t (length s.names.names))) >>= λ t. Ok (length s.labels, t))
     new None = record { end = omega (arith, length-append s.labels (length s.names.names ∷ [])); are = (refl, tt) }
     new (Some i) = tt
 
-during_numbered : (s : Scope) (at : ℕ) (d : Option Text) → Has (MaybeNumbered s) (during_means s at d)
-during_numbered s at None = nothing
-during_numbered s at (Some n) = next (OneNumbered s) (MaybeNumbered s) (label_means s at n) _ (label_numbered s at n) (λ l k. k)
+during_numbered : (s : Scope) (d : Option (Placed Text)) → Has (MaybeNumbered s) (during_means s d)
+during_numbered s None = nothing
+during_numbered s (Some n) = next (OneNumbered s) (MaybeNumbered s) (label_means s n) _ (label_numbered s n) (λ l k. k)
 
 one_labels : {n : ℕ} (k : Option Primitive) → Numbered n n (statement_labels (one_or_skip k))
 one_labels None = nothing
 one_labels (Some k) = nothing
 
 module _ (lines : List ℕ) where
-  abbrev One : Scope → Statement × Scope × ℕ → Type 0
+  abbrev One : Scope → Statement × Scope → Type 0
   One = LabelsRead statement_labels
 
-  abbrev Many : Scope → Statements × Scope × ℕ → Type 0
+  abbrev Many : Scope → Statements × Scope → Type 0
   Many = LabelsRead block_labels
 
-  abbrev Choices : Scope → Blocks × Scope × ℕ → Type 0
+  abbrev Choices : Scope → Blocks × Scope → Type 0
   Choices = LabelsRead blocks_labels
 
   mutual
     one_numbered : (s : Scope) (in_loop : Bool) (at : ℕ) (st : StatementTree) → Has (One s) (statement_means lines s in_loop at st)
-    one_numbered s in_loop at (PrimitiveStatement p) = any (One s) (primitive_means s at p) _ (λ k. one_labels k)
-    one_numbered s in_loop at (AtomicStatement ps) = any (One s) (atomic_means s (at + 2) ps) _ (λ b. nothing)
-    one_numbered s in_loop at (CallStatement f a d) = any (One s) (call_means s at f a) _ (λ c.
-        next (MaybeNumbered s) (One s) (during_means s (at + call_size a) d) _ (during_numbered s (at + call_size a) d) (λ l k. k))
-    one_numbered s in_loop at (IfStatement c b e) = any (One s) (condition_means s (at + 2) c) _ (λ k.
-        next (Many s) (One s) (statements_mean lines s in_loop (at + 2 + condition_size c + 2) b) _ (many_numbered s in_loop (at + 2 + condition_size c + 2) b) (λ x f.
-        next (Many x.1) (One s) (else_means lines x.1 in_loop (x.2 + 1) e) _ (else_numbered x.1 in_loop (x.2 + 1) e) (λ y g. joined f g)))
+    one_numbered s in_loop at (PrimitiveStatement p) = any (One s) (primitive_means s p) _ (λ k. one_labels k)
+    one_numbered s in_loop at (AtomicStatement ps) = any (One s) (atomic_means s ps) _ (λ b. nothing)
+    one_numbered s in_loop at (CallStatement f a d) = any (One s) (call_means s f a) _ (λ c.
+        next (MaybeNumbered s) (One s) (during_means s d) _ (during_numbered s d) (λ l k. k))
+    one_numbered s in_loop at (IfStatement c b e) = any (One s) (condition_means s c) _ (λ k.
+        next (Many s) (One s) (statements_mean lines s in_loop b) _ (many_numbered s in_loop b) (λ x f.
+        next (Many x.1) (One s) (else_means lines x.1 in_loop e) _ (else_numbered x.1 in_loop e) (λ y g. joined f g)))
     one_numbered s in_loop at (ChooseStatement a b os) =
-        next (Many s) (One s) (statements_mean lines s in_loop (at + 2) a) _ (many_numbered s in_loop (at + 2) a) (λ x f.
-        next (Many x.1) (One s) (statements_mean lines x.1 in_loop (x.2 + 3) b) _ (many_numbered x.1 in_loop (x.2 + 3) b) (λ y g.
-        next (Choices y.1) (One s) (or_means lines y.1 in_loop (y.2 + 1) os) _ (choices_numbered y.1 in_loop (y.2 + 1) os) (λ z k. joined f (joined g k))))
-    one_numbered s in_loop at (LoopStatement b) = next (Many s) (One s) (statements_mean lines s true (at + 2) b) _ (many_numbered s true (at + 2) b) (λ x f. f)
+        next (Many s) (One s) (statements_mean lines s in_loop a) _ (many_numbered s in_loop a) (λ x f.
+        next (Many x.1) (One s) (statements_mean lines x.1 in_loop b) _ (many_numbered x.1 in_loop b) (λ y g.
+        next (Choices y.1) (One s) (or_means lines y.1 in_loop os) _ (choices_numbered y.1 in_loop os) (λ z k. joined f (joined g k))))
+    one_numbered s in_loop at (LoopStatement b) = next (Many s) (One s) (statements_mean lines s true b) _ (many_numbered s true b) (λ x f. f)
     one_numbered s true at BreakStatement = nothing
     one_numbered s false at BreakStatement = tt
     one_numbered s in_loop at ReturnStatement = nothing
-    one_numbered s in_loop at (LabelStatement n) = next (OneNumbered s) (One s) (label_means s at n) _ (label_numbered s at n) (λ l k. k)
+    one_numbered s in_loop at (LabelStatement n) = next (OneNumbered s) (One s) (label_means s n) _ (label_numbered s n) (λ l k. k)
 
-    pub many_numbered : (s : Scope) (in_loop : Bool) (at : ℕ) (b : BlockTree) → Has (Many s) (statements_mean lines s in_loop at b)
-    many_numbered s in_loop at NoStatement = nothing
-    many_numbered s in_loop at (ThenStatement st b) = next (One s) (Many s) (statement_means lines s in_loop at st) _ (one_numbered s in_loop at st) (λ first f.
-        next (Many first.1) (Many s) (statements_mean lines first.1 in_loop first.2 b) _ (many_numbered first.1 in_loop first.2 b) (λ others g. joined f g))
+    pub many_numbered : (s : Scope) (in_loop : Bool) (b : BlockTree) → Has (Many s) (statements_mean lines s in_loop b)
+    many_numbered s in_loop NoStatement = nothing
+    many_numbered s in_loop (ThenStatement at st b) = next (One s) (Many s) (statement_means lines s in_loop at st) _ (one_numbered s in_loop at st) (λ first f.
+        next (Many first.1) (Many s) (statements_mean lines first.1 in_loop b) _ (many_numbered first.1 in_loop b) (λ others g. joined f g))
 
-    else_numbered : (s : Scope) (in_loop : Bool) (at : ℕ) (e : ElseTree) → Has (Many s) (else_means lines s in_loop at e)
-    else_numbered s in_loop at NoElse = nothing
-    else_numbered s in_loop at (ElseBlock b) = next (Many s) (Many s) (statements_mean lines s in_loop (at + 2) b) _ (many_numbered s in_loop (at + 2) b) (λ x f. f)
+    else_numbered : (s : Scope) (in_loop : Bool) (e : ElseTree) → Has (Many s) (else_means lines s in_loop e)
+    else_numbered s in_loop NoElse = nothing
+    else_numbered s in_loop (ElseBlock b) = many_numbered s in_loop b
 
-    choices_numbered : (s : Scope) (in_loop : Bool) (at : ℕ) (os : OrTree) → Has (Choices s) (or_means lines s in_loop at os)
-    choices_numbered s in_loop at NoOr = nothing
-    choices_numbered s in_loop at (OrBlock b os) = next (Many s) (Choices s) (statements_mean lines s in_loop (at + 2) b) _ (many_numbered s in_loop (at + 2) b) (λ x f.
-        next (Choices x.1) (Choices s) (or_means lines x.1 in_loop (x.2 + 1) os) _ (choices_numbered x.1 in_loop (x.2 + 1) os) (λ y g. joined f g))
+    choices_numbered : (s : Scope) (in_loop : Bool) (os : OrTree) → Has (Choices s) (or_means lines s in_loop os)
+    choices_numbered s in_loop NoOr = nothing
+    choices_numbered s in_loop (OrBlock b os) = next (Many s) (Choices s) (statements_mean lines s in_loop b) _ (many_numbered s in_loop b) (λ x f.
+        next (Choices x.1) (Choices s) (or_means lines x.1 in_loop os) _ (choices_numbered x.1 in_loop os) (λ y g. joined f g))
 
 -- ---- operations
 

@@ -12,7 +12,7 @@ use Rattle.plc_parse.proofs.Answering.{one_meaning}
 
 module _ (ts : List Token) where
   not_read : (e : ParseFault) → e ≢ faults.Memory → IsFaultOf ts e → (m : Result FileUnit ParseFault) → AreRead ts m → m ≡ Err e
-  not_read e none (no_file at is fault) m read = absurd (faults_one.syntax_no_file (kinds ts) at fault (read.means.tree, read.means.tokens))
+  not_read e none (no_file at is fault) m read = absurd (faults_one.syntax_no_file (kinds ts) at fault (read.means.tree, sym read.means.tokens.tokens))
   not_read e none (too_deep at is fault) m read = absurd (faults_one.nesting_not_shallow (kinds ts) at fault read.shallow)
   not_read e none (no_unit other) m read = one_meaning ts m (Err e) read.means other.means
   not_read e none (no_memory is) m read = absurd (none is)

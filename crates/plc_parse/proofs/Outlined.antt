@@ -32,14 +32,14 @@ names_of s file labels h =
 
 -- ---- the file
 
-module _ (s : Scope) (file : File) (labels : s.labels ≡ file.labels) (there : AllThere (lists_of file) s) (at : ℕ) where
+module _ (s : Scope) (file : File) (labels : s.labels ≡ file.labels) (there : AllThere (lists_of file) s) where
   nothing_said : OutlineFits file (record { depth = 0; invariants = []; items = [] })
   nothing_said = record { depth = omega arith; invariants = omega arith; each_invariant = All-nil (InvariantFits file); items = omega arith; each_item = All-nil (ItemFits file) }
 
-  read_fits : (t : OutlineTree) (r : Result (Outline × ℕ) ParseFault) → outline_means s file.ops at t ≡ r → Has (OutlineFits file) (r >>= λ o. Ok o.0)
-  read_fits t (Ok o) e = outline_fits s file at o.1 t o.0 (names_of s file labels there) e
+  read_fits : (t : OutlineTree) (r : Result Outline ParseFault) → outline_means s file.ops t ≡ r → Has (OutlineFits file) r
+  read_fits t (Ok o) e = outline_fits s file t o (names_of s file labels there) e
   read_fits t (Err e) is = tt
 
-  pub outlined_fits : (t : Option OutlineTree) → Has (OutlineFits file) (outlined_means s file.ops at t)
+  pub outlined_fits : (t : Option OutlineTree) → Has (OutlineFits file) (outlined_means s file.ops t)
   outlined_fits None = nothing_said
-  outlined_fits (Some t) = read_fits t (outline_means s file.ops at t) refl
+  outlined_fits (Some t) = read_fits t (outline_means s file.ops t) refl

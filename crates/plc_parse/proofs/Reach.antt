@@ -13,14 +13,14 @@ use Rattle.plc_lang.specs.declared.syntax.Var.TheVariants.{Shared as SharedVar, 
 use Rattle.plc_lang.specs.Locals.{is_pointer, is_data, is_parameter, is_other_data}
 use Rattle.plc_lang.specs.Shape.{Shape, VarIn}
 use Rattle.plc_base.specs.Functions.{is_retire}
-use Rattle.plc_syntax.specs.Trees.{Text}
+use Rattle.plc_syntax.specs.Trees.{Text, Placed}
 use Rattle.plc_scope.specs.declared.fault.ParseFault.TheVariants as faults
 use Rattle.plc_scope.specs.declared.scope.Scope.{Scope}
 use Rattle.plc_scope.specs.declared.binding.Binding.{Binding}
 use Rattle.plc_scope.specs.declared.binding.Binding.TheVariants.{Taken, Shared, PointerField, DataField, Function, Auxiliary, Value, LocalOnly}
 use Rattle.plc_scope.specs.declared.binding.Role.{Role}
 use Rattle.plc_scope.specs.declared.binding.Role.TheVariants.{PointerVariable as pointer_variable, DataLocal as data_local, PointerField as pointer_field, DataField as data_field, Function as function, Auxiliary as auxiliary, Value as value, NoValue as no_value}
-use Rattle.plc_scope.specs.Scope.{◌>>=◌, most_locals, first_scope, if_new, with_name, declared, declared_label, has_local, may_name_local, local_number, with_local, declared_local, declared_parameter, binding_role, local_role, role_found, role_of, if_fits, known, needed, as_pointer, as_pointer_local, as_data, as_pointer_field, as_data_field, as_protecting, as_without_pointer, pointer_at, pointer_local_at, data_at, pointer_field_at, data_field_at, protecting_at, without_pointer_at}
+use Rattle.plc_scope.specs.Scope.{◌>>=◌, most_locals, first_scope, if_new, with_name, declared, declared_label, has_local, may_name_local, local_number, with_local, declared_local, declared_parameter, binding_role, local_role, role_found, role_of, role_at, if_fits, needed, as_pointer, as_pointer_local, as_data, as_pointer_field, as_data_field, as_protecting, as_without_pointer, pointer_at, pointer_local_at, data_at, pointer_field_at, data_field_at, protecting_at, without_pointer_at}
 use Rattle.plc_scope.proofs.Holds.{Has, next, unless, if_ok, known_has}
 use Rattle.plc_scope.proofs.Finds.{made_is, below_count}
 
@@ -92,30 +92,30 @@ reaches_more m n k l s a b r = record { bound = All-weaker (BindingIn m n) (Bind
 pub first_reaches : Reaches (outside 0 0) first_scope
 first_reaches = record { bound = All-cons (BindingIn 0 0) (Function (record { 0 = 0 }) true) [] (λ e. absurd cc) (All-nil (BindingIn 0 0)); pointers = omega arith; values = omega arith }
 
-pub declared_reaches : (h : Shape) (s : Scope) (name : Text) (at : ℕ) (b : Binding) → BindingIn h.shared h.fields b → Reaches h s → Has (Reaches h) (declared s name at b)
-declared_reaches h s name at b is r = new (place_of name s.names.names)
+pub declared_reaches : (h : Shape) (s : Scope) (name : Placed Text) (b : Binding) → BindingIn h.shared h.fields b → Reaches h s → Has (Reaches h) (declared s name b)
+declared_reaches h s name b is r = new (place_of name.value s.names.names)
   where
-    new : (o : Option ℕ) → Has (Reaches h) (if_new o at (with_name s name b))
+    new : (o : Option ℕ) → Has (Reaches h) (if_new o name.at (with_name s name.value b))
     new None = record { bound = All-push (BindingIn h.shared h.fields) s.bindings b r.bound is; pointers = r.pointers; values = r.values }
     new (Some i) = tt
 
-pub label_reaches : (h : Shape) (s : Scope) (name : Text) (at : ℕ) → Reaches h s → Has (Reaches h) (declared_label s name at)
-label_reaches h s name at r = next (Reaches h) (Reaches h) (declared s name at Taken) _ (declared_reaches h s name at Taken tt r) (λ t k. record { bound = k.bound; pointers = k.pointers; values = k.values })
+pub label_reaches : (h : Shape) (s : Scope) (name : Placed Text) → Reaches h s → Has (Reaches h) (declared_label s name)
+label_reaches h s name r = next (Reaches h) (Reaches h) (declared s name Taken) _ (declared_reaches h s name Taken tt r) (λ t k. record { bound = k.bound; pointers = k.pointers; values = k.values })
 
 -- what holds of a name that is a local's only goes on holding
 module _ (P : Binding → Type 0) (of_local : P LocalOnly) where
-  number_bound : (o : Option ℕ) (s : Scope) (name : Text) (at : ℕ) → Bound P s → Has (λ x. Bound P x.1) (local_number o s name at)
-  number_bound None s name at h = All-push P s.bindings LocalOnly h of_local
-  number_bound (Some i) s name at h = if_ok (λ x. Bound P x.1) (may_name_local (slice_get s.bindings i) (has_local s.locals i)) (i, s) (faults.Duplicate at) h
+  number_bound : (o : Option ℕ) (s : Scope) (name : Placed Text) → Bound P s → Has (λ x. Bound P x.1) (local_number o s name)
+  number_bound None s name h = All-push P s.bindings LocalOnly h of_local
+  number_bound (Some i) s name h = if_ok (λ x. Bound P x.1) (may_name_local (slice_get s.bindings i) (has_local s.locals i)) (i, s) (faults.Duplicate name.at) h
 
-  pub local_bound : (s : Scope) (name : Text) (at : ℕ) (p : Bool) → Bound P s → Has (Bound P) (declared_local s name at p)
+  pub local_bound : (s : Scope) (name : Placed Text) (p : Bool) → Bound P s → Has (Bound P) (declared_local s name p)
   unfolding declared_local
-  local_bound s name at p h = unless (Bound P) (length s.locals == most_locals) _ (local_number (place_of name s.names.names) s name at >>= λ x. Ok (with_local x.1 x.0 p false)) (λ few.
-      next (λ x. Bound P x.1) (Bound P) (local_number (place_of name s.names.names) s name at) _ (number_bound (place_of name s.names.names) s name at h) (λ x k. k))
+  local_bound s name p h = unless (Bound P) (length s.locals == most_locals) _ (local_number (place_of name.value s.names.names) s name >>= λ x. Ok (with_local x.1 x.0 p false)) (λ few.
+      next (λ x. Bound P x.1) (Bound P) (local_number (place_of name.value s.names.names) s name) _ (number_bound (place_of name.value s.names.names) s name h) (λ x k. k))
 
-  pub parameter_bound : (s : Scope) (name : Text) (at : ℕ) → Bound P s → Has (Bound P) (declared_parameter s name at)
+  pub parameter_bound : (s : Scope) (name : Placed Text) → Bound P s → Has (Bound P) (declared_parameter s name)
   unfolding declared_parameter
-  parameter_bound s name at h = next (λ x. Bound P x.1) (Bound P) (local_number (place_of name s.names.names) s name at) _ (number_bound (place_of name s.names.names) s name at h) (λ x k.
+  parameter_bound s name h = next (λ x. Bound P x.1) (Bound P) (local_number (place_of name.value s.names.names) s name) _ (number_bound (place_of name.value s.names.names) s name h) (λ x k.
       unless (Bound P) (length s.locals == most_locals) _ (Ok (with_local x.1 x.0 false true)) (λ few. k))
 
 -- ---- what a name is
@@ -222,29 +222,29 @@ without_pointer_in h (function f true) is = tt
 without_pointer_in h (function f false) is = ne_eqb f.0 0 (λ e. omega (arith, e, is refl))
 without_pointer_in h k is = tt
 
--- what a name at a place is found to be is there, whatever is wanted
-pub record NamesIn (h : Shape) (s : Scope) (n : Text) (at : ℕ) : Type 0 where
-  pub any : Has (RoleIn h) (known at (role_of s n))
-  pub pointer : Has (VarIn h) (pointer_at s n at)
-  pub pointer_local : Has (PointerIn h) (pointer_local_at s n at)
-  pub value : Has (ValueIn h) (data_at s n at)
-  pub pointer_field : Has (FieldIn h) (pointer_field_at s n at)
-  pub data_field : Has (FieldIn h) (data_field_at s n at)
-  pub hazard : Has NotRetire (protecting_at s n at)
-  pub epoch : Has NotRetire (without_pointer_at s n at)
+-- what a name is found to be is there, whatever is wanted
+pub record NamesIn (h : Shape) (s : Scope) (n : Placed Text) : Type 0 where
+  pub any : Has (RoleIn h) (role_at s n)
+  pub pointer : Has (VarIn h) (pointer_at s n)
+  pub pointer_local : Has (PointerIn h) (pointer_local_at s n)
+  pub value : Has (ValueIn h) (data_at s n)
+  pub pointer_field : Has (FieldIn h) (pointer_field_at s n)
+  pub data_field : Has (FieldIn h) (data_field_at s n)
+  pub hazard : Has NotRetire (protecting_at s n)
+  pub epoch : Has NotRetire (without_pointer_at s n)
 
-pub names_in : (h : Shape) (s : Scope) (r : Reaches h s) (n : Text) (at : ℕ) → NamesIn h s n at
+pub names_in : (h : Shape) (s : Scope) (r : Reaches h s) (n : Placed Text) → NamesIn h s n
 unfolding pointer_at pointer_local_at data_at pointer_field_at data_field_at protecting_at without_pointer_at
-names_in h s r n at =
-    let role = role_of s n in
-    let is = role_in h s n r in
+names_in h s r n =
+    let role = role_of s n.value in
+    let is = role_in h s n.value r in
     record {
-      any = known_has (RoleIn h) at role is;
-      pointer = needed_in (RoleIn h) (VarIn h) as_pointer (pointers_in h) at role is;
-      pointer_local = needed_in (RoleIn h) (PointerIn h) as_pointer_local (pointer_locals_in h) at role is;
-      value = needed_in (RoleIn h) (ValueIn h) as_data (values_in h) at role is;
-      pointer_field = needed_in (RoleIn h) (FieldIn h) as_pointer_field (pointer_fields_in h) at role is;
-      data_field = needed_in (RoleIn h) (FieldIn h) as_data_field (data_fields_in h) at role is;
-      hazard = needed_in (RoleIn h) NotRetire as_protecting (protecting_in h) at role is;
-      epoch = needed_in (RoleIn h) NotRetire as_without_pointer (without_pointer_in h) at role is;
+      any = known_has (RoleIn h) n.at role is;
+      pointer = needed_in (RoleIn h) (VarIn h) as_pointer (pointers_in h) n.at role is;
+      pointer_local = needed_in (RoleIn h) (PointerIn h) as_pointer_local (pointer_locals_in h) n.at role is;
+      value = needed_in (RoleIn h) (ValueIn h) as_data (values_in h) n.at role is;
+      pointer_field = needed_in (RoleIn h) (FieldIn h) as_pointer_field (pointer_fields_in h) n.at role is;
+      data_field = needed_in (RoleIn h) (FieldIn h) as_data_field (data_fields_in h) n.at role is;
+      hazard = needed_in (RoleIn h) NotRetire as_protecting (protecting_in h) n.at role is;
+      epoch = needed_in (RoleIn h) NotRetire as_without_pointer (without_pointer_in h) n.at role is;
     }

@@ -14,15 +14,14 @@ use Rattle.plc_lang.specs.declared.syntax.Ghost.{Ghost}
 use Rattle.plc_lang.specs.declared.syntax.Local.{Local}
 use Rattle.plc_lang.specs.declared.syntax.File.{File}
 use Rattle.plc_lang.specs.WellSorted.{IsWellSorted, is_call, is_test, is_refresh, is_initial, is_me, WriteIsWellSorted, CallIsWellSorted, ClaimFits, ConditionIsWellSorted}
-use Rattle.plc_syntax.specs.Trees.{Text, PlaceTree, PlaceOf, AtomTree, NullAtom, NumberAtom, NameAtom, ValueTree, NullValue, NewValue, NumberValue, MarkValue, UnmarkValue, PlaceValue, SetTree, SetName, SetField, RefreshTree, RefreshName, RefreshField, GhostValueTree, NameGhost, MeGhost, NoneGhost, GhostSetTree, SetGhost, InitialTree, InitialSet, InitialGhost, Comparison, SameAs, OtherThan, LessThan, NotLessThan, TestTree, MarkedTest, UnmarkedTest, Compares, ConditionTree, TestCondition, RefreshCondition, CasCondition, PrimitiveTree, SetPrimitive, RefreshPrimitive, GhostPrimitive, ActivePrimitive, AssumePrimitive, SkipPrimitive, ArgumentTree, NoArgument, NullArgument, NameArgument, ActiveArgument}
-use Rattle.plc_syntax.specs.Sizes.{word_size}
+use Rattle.plc_syntax.specs.Trees.{Text, Placed, PlaceTree, PlaceOf, AtomTree, NullAtom, NumberAtom, NameAtom, ValueTree, NullValue, NewValue, NumberValue, MarkValue, UnmarkValue, PlaceValue, SetTree, SetName, SetField, RefreshTree, RefreshName, RefreshField, GhostValueTree, NameGhost, MeGhost, NoneGhost, GhostSetTree, SetGhost, InitialTree, InitialSet, InitialGhost, Comparison, SameAs, OtherThan, LessThan, NotLessThan, TestTree, MarkedTest, UnmarkedTest, Compares, ConditionTree, TestCondition, RefreshCondition, CasCondition, PrimitiveTree, SetPrimitive, RefreshPrimitive, GhostPrimitive, ActivePrimitive, AssumePrimitive, SkipPrimitive, ArgumentTree, NoArgument, NullArgument, NameArgument, ActiveArgument}
 use Rattle.plc_scope.specs.declared.fault.ParseFault.{ParseFault}
 use Rattle.plc_scope.specs.declared.scope.Scope.{Scope}
 use Rattle.plc_scope.specs.declared.binding.Binding.{Binding}
 use Rattle.plc_scope.specs.declared.binding.Binding.TheVariants.{Shared}
 use Rattle.plc_scope.specs.declared.binding.Role.{Role}
 use Rattle.plc_scope.specs.declared.binding.Role.TheVariants.{PointerVariable as pointer_variable, DataLocal as data_local, PointerField as pointer_field, DataField as data_field, Function as function, Auxiliary as auxiliary, Value as value}
-use Rattle.plc_scope.specs.Scope.{◌>>=◌, known, needed, role_of, local_role, binding_role, as_pointer_field, as_data_field, as_function, as_protecting, as_without_pointer, as_auxiliary, as_value_of, as_thread, pointer_at, pointer_local_at, data_at, pointer_field_at, data_field_at, function_at, protecting_at, without_pointer_at, auxiliary_at, value_at, thread_at}
+use Rattle.plc_scope.specs.Scope.{◌>>=◌, needed, role_of, role_at, local_role, binding_role, as_pointer_field, as_data_field, as_function, as_protecting, as_without_pointer, as_auxiliary, as_value_of, as_thread, pointer_at, pointer_local_at, data_at, pointer_field_at, data_field_at, function_at, protecting_at, without_pointer_at, auxiliary_at, value_at, thread_at}
 use Rattle.plc_scope.specs.Primitives.{pointer_value, data_value, value_into, pointer_atom, data_atom, atom_into, set_means, refresh_from, refresh_name_means, refresh_means, ghost_value_means, ghost_set_means, pointer_equality, pointer_test, data_test, test_of, test_means, pointer_or_null, condition_means, primitive_means, initial_means, CallMeaning, argument_means, call_means}
 use Rattle.plc_scope.proofs.Holds.{Has, weaker, next, any, unless, known_has}
 use Rattle.plc_outparse.specs.Fit.{holds_threads}
@@ -95,45 +94,45 @@ module _ (d : Lists) where
   values h (value g v) is = of_field h g v (g == h) refl is
   values h k is = tt
 
-  module _ (s : Scope) (all : AllThere d s) (n : Text) (at : ℕ) where
-    role_there : IfSome (role_of s n) (RoleThere d)
-    role_there = role_is (IsThere d) (RoleThere d) binding_there s n all (λ i l there. local_there s.locals i l.pointer)
+  module _ (s : Scope) (all : AllThere d s) (n : Placed Text) where
+    role_there : IfSome (role_of s n.value) (RoleThere d)
+    role_there = role_is (IsThere d) (RoleThere d) binding_there s n.value all (λ i l there. local_there s.locals i l.pointer)
 
-    found : {A : Type 0} (P : A → Type 0) (wanted : Role → Option A) → ((k : Role) → RoleThere d k → IfSome (wanted k) P) → Has P (needed wanted at (role_of s n))
-    found P wanted each = needed_in (RoleThere d) P wanted each at (role_of s n) role_there
+    found : {A : Type 0} (P : A → Type 0) (wanted : Role → Option A) → ((k : Role) → RoleThere d k → IfSome (wanted k) P) → Has P (needed wanted n.at (role_of s n.value))
+    found P wanted each = needed_in (RoleThere d) P wanted each n.at (role_of s n.value) role_there
 
-    any_there : Has (RoleThere d) (known at (role_of s n))
-    any_there = known_has (RoleThere d) at (role_of s n) role_there
+    any_there : Has (RoleThere d) (role_at s n)
+    any_there = known_has (RoleThere d) n.at (role_of s n.value) role_there
 
-    pointer_field_there : Has (λ f. IsField d f.0 true) (pointer_field_at s n at)
+    pointer_field_there : Has (λ f. IsField d f.0 true) (pointer_field_at s n)
     unfolding pointer_field_at
     pointer_field_there = found (λ f. IsField d f.0 true) as_pointer_field pointer_fields
 
-    data_field_there : Has (λ f. IsField d f.0 false) (data_field_at s n at)
+    data_field_there : Has (λ f. IsField d f.0 false) (data_field_at s n)
     unfolding data_field_at
     data_field_there = found (λ f. IsField d f.0 false) as_data_field data_fields
 
-    function_is_there : Has FunctionFound (function_at s n at)
+    function_is_there : Has FunctionFound (function_at s n)
     unfolding function_at
     function_is_there = found FunctionFound as_function functions
 
-    pub protecting_there : Has (IsProtecting d) (protecting_at s n at)
+    pub protecting_there : Has (IsProtecting d) (protecting_at s n)
     unfolding protecting_at
     protecting_there = found (IsProtecting d) as_protecting protecting
 
-    pub without_pointer_there : Has (IsWithoutPointer d) (without_pointer_at s n at)
+    pub without_pointer_there : Has (IsWithoutPointer d) (without_pointer_at s n)
     unfolding without_pointer_at
     without_pointer_there = found (IsWithoutPointer d) as_without_pointer without_pointers
 
-    auxiliary_there : Has AuxiliaryFound (auxiliary_at s n at)
+    auxiliary_there : Has AuxiliaryFound (auxiliary_at s n)
     unfolding auxiliary_at
     auxiliary_there = found AuxiliaryFound as_auxiliary auxiliaries
 
-    value_is_there : (g : ℕ) → Has (ValueFound g) (value_at s g n at)
+    value_is_there : (g : ℕ) → Has (ValueFound g) (value_at s g n)
     unfolding value_at
     value_is_there g = found (ValueFound g) (as_value_of g) (values g)
 
-    no_thread_there : Has (λ v. ⊥) (thread_at s n at)
+    no_thread_there : Has (λ v. ⊥) (thread_at s n)
     unfolding thread_at
     no_thread_there = found (λ v. ⊥) as_thread (λ k is. tt)
 
@@ -157,65 +156,65 @@ module _ (file : File) (s : Scope) (all : AllThere (lists_of file) s) where
   abbrev pub IsSet : Primitive → Type 0
   IsSet = IsOf file is_initial
 
-  pointer_value_sorted : (p : Var) (at : ℕ) (v : ValueTree) → Has IsSet (pointer_value s p at v)
-  pointer_value_sorted p at NullValue = record { sorted = tt; no_call = refl; of_kind = refl }
-  pointer_value_sorted p at NewValue = record { sorted = tt; no_call = refl; of_kind = refl }
-  pointer_value_sorted p at (NumberValue n) = tt
-  pointer_value_sorted p at (MarkValue n) =
-      any IsSet (pointer_at s n (at + 1)) _ (λ q. record { sorted = tt; no_call = refl; of_kind = refl })
-  pointer_value_sorted p at (UnmarkValue n) =
-      any IsSet (pointer_at s n (at + 1)) _ (λ q. record { sorted = tt; no_call = refl; of_kind = refl })
-  pointer_value_sorted p at (PlaceValue (PlaceOf n None)) = any IsSet (pointer_at s n at) _ (λ q. record { sorted = tt; no_call = refl; of_kind = refl })
-  pointer_value_sorted p at (PlaceValue (PlaceOf n (Some f))) = any IsSet (pointer_at s n at) _ (λ q.
-      next (λ g. IsField (lists_of file) g.0 true) IsSet (pointer_field_at s f (at + 2)) _ (pointer_field_there (lists_of file) s all f (at + 2)) (λ g is. record { sorted = is; no_call = refl; of_kind = refl }))
+  pointer_value_sorted : (p : Var) (v : ValueTree) → Has IsSet (pointer_value s p v)
+  pointer_value_sorted p (NullValue at) = record { sorted = tt; no_call = refl; of_kind = refl }
+  pointer_value_sorted p (NewValue at) = record { sorted = tt; no_call = refl; of_kind = refl }
+  pointer_value_sorted p (NumberValue n) = tt
+  pointer_value_sorted p (MarkValue at n) =
+      any IsSet (pointer_at s n) _ (λ q. record { sorted = tt; no_call = refl; of_kind = refl })
+  pointer_value_sorted p (UnmarkValue at n) =
+      any IsSet (pointer_at s n) _ (λ q. record { sorted = tt; no_call = refl; of_kind = refl })
+  pointer_value_sorted p (PlaceValue (PlaceOf n None)) = any IsSet (pointer_at s n) _ (λ q. record { sorted = tt; no_call = refl; of_kind = refl })
+  pointer_value_sorted p (PlaceValue (PlaceOf n (Some f))) = any IsSet (pointer_at s n) _ (λ q.
+      next (λ g. IsField (lists_of file) g.0 true) IsSet (pointer_field_at s f) _ (pointer_field_there (lists_of file) s all f) (λ g is. record { sorted = is; no_call = refl; of_kind = refl }))
 
-  data_value_sorted : (x at : ℕ) (v : ValueTree) → Has IsSet (data_value s x at v)
-  data_value_sorted x at NullValue = tt
-  data_value_sorted x at NewValue = tt
-  data_value_sorted x at (NumberValue n) = record { sorted = tt; no_call = refl; of_kind = refl }
-  data_value_sorted x at (MarkValue n) = tt
-  data_value_sorted x at (UnmarkValue n) = tt
-  data_value_sorted x at (PlaceValue (PlaceOf n None)) = any IsSet (data_at s n at) _ (λ y. record { sorted = tt; no_call = refl; of_kind = refl })
-  data_value_sorted x at (PlaceValue (PlaceOf n (Some f))) = any IsSet (pointer_at s n at) _ (λ q.
-      next (λ g. IsField (lists_of file) g.0 false) IsSet (data_field_at s f (at + 2)) _ (data_field_there (lists_of file) s all f (at + 2)) (λ g is. record { sorted = is; no_call = refl; of_kind = refl }))
+  data_value_sorted : (x : ℕ) (v : ValueTree) → Has IsSet (data_value s x v)
+  data_value_sorted x (NullValue at) = tt
+  data_value_sorted x (NewValue at) = tt
+  data_value_sorted x (NumberValue n) = record { sorted = tt; no_call = refl; of_kind = refl }
+  data_value_sorted x (MarkValue at n) = tt
+  data_value_sorted x (UnmarkValue at n) = tt
+  data_value_sorted x (PlaceValue (PlaceOf n None)) = any IsSet (data_at s n) _ (λ y. record { sorted = tt; no_call = refl; of_kind = refl })
+  data_value_sorted x (PlaceValue (PlaceOf n (Some f))) = any IsSet (pointer_at s n) _ (λ q.
+      next (λ g. IsField (lists_of file) g.0 false) IsSet (data_field_at s f) _ (data_field_there (lists_of file) s all f) (λ g is. record { sorted = is; no_call = refl; of_kind = refl }))
 
-  value_into_sorted : (at : ℕ) (v : ValueTree) (left : Role) (place : ℕ) → Has IsSet (value_into s at v left place)
-  value_into_sorted at v (pointer_variable p) place = pointer_value_sorted p at v
-  value_into_sorted at v (data_local x) place = data_value_sorted x at v
-  value_into_sorted at v left place = tt
+  value_into_sorted : (v : ValueTree) (n : Placed Text) (left : Role) → Has IsSet (value_into s v n left)
+  value_into_sorted v n (pointer_variable p) = pointer_value_sorted p v
+  value_into_sorted v n (data_local x) = data_value_sorted x v
+  value_into_sorted v n left = tt
 
-  pointer_atom_sorted : (p : Var) (f : FieldId) (at : ℕ) (a : AtomTree) → IsField (lists_of file) f.0 true → Has IsSet (pointer_atom s p f at a)
-  pointer_atom_sorted p f at NullAtom is = record { sorted = is; no_call = refl; of_kind = refl }
-  pointer_atom_sorted p f at (NumberAtom n) is = tt
-  pointer_atom_sorted p f at (NameAtom n) is = any IsSet (pointer_at s n at) _ (λ q. record { sorted = is; no_call = refl; of_kind = refl })
+  pointer_atom_sorted : (p : Var) (f : FieldId) (a : AtomTree) → IsField (lists_of file) f.0 true → Has IsSet (pointer_atom s p f a)
+  pointer_atom_sorted p f (NullAtom at) is = record { sorted = is; no_call = refl; of_kind = refl }
+  pointer_atom_sorted p f (NumberAtom n) is = tt
+  pointer_atom_sorted p f (NameAtom n) is = any IsSet (pointer_at s n) _ (λ q. record { sorted = is; no_call = refl; of_kind = refl })
 
-  data_atom_sorted : (p : Var) (f : FieldId) (at : ℕ) (a : AtomTree) → IsField (lists_of file) f.0 false → Has IsSet (data_atom s p f at a)
-  data_atom_sorted p f at NullAtom is = tt
-  data_atom_sorted p f at (NumberAtom n) is = record { sorted = is; no_call = refl; of_kind = refl }
-  data_atom_sorted p f at (NameAtom n) is = any IsSet (data_at s n at) _ (λ y. record { sorted = is; no_call = refl; of_kind = refl })
+  data_atom_sorted : (p : Var) (f : FieldId) (a : AtomTree) → IsField (lists_of file) f.0 false → Has IsSet (data_atom s p f a)
+  data_atom_sorted p f (NullAtom at) is = tt
+  data_atom_sorted p f (NumberAtom n) is = record { sorted = is; no_call = refl; of_kind = refl }
+  data_atom_sorted p f (NameAtom n) is = any IsSet (data_at s n) _ (λ y. record { sorted = is; no_call = refl; of_kind = refl })
 
-  atom_into_sorted : (p : Var) (at : ℕ) (a : AtomTree) (field : Role) (place : ℕ) → RoleThere (lists_of file) field → Has IsSet (atom_into s p at a field place)
-  atom_into_sorted p at a (pointer_field f) place is = pointer_atom_sorted p f at a is
-  atom_into_sorted p at a (data_field f) place is = data_atom_sorted p f at a is
-  atom_into_sorted p at a other place is = tt
+  atom_into_sorted : (p : Var) (a : AtomTree) (n : Placed Text) (field : Role) → RoleThere (lists_of file) field → Has IsSet (atom_into s p a n field)
+  atom_into_sorted p a n (pointer_field f) is = pointer_atom_sorted p f a is
+  atom_into_sorted p a n (data_field f) is = data_atom_sorted p f a is
+  atom_into_sorted p a n other is = tt
 
-  set_sorted : (at : ℕ) (t : SetTree) → Has IsSet (set_means s at t)
+  set_sorted : (t : SetTree) → Has IsSet (set_means s t)
   unfolding set_means
-  set_sorted at (SetName n v) = any IsSet (known at (role_of s n)) _ (λ left. value_into_sorted (at + 2) v left at)
-  set_sorted at (SetField n f a) = any IsSet (pointer_at s n at) _ (λ p.
-      next (RoleThere (lists_of file)) IsSet (known (at + 2) (role_of s f)) _ (any_there (lists_of file) s all f (at + 2)) (λ field is. atom_into_sorted p (at + 4) a field (at + 2) is))
+  set_sorted (SetName n v) = any IsSet (role_at s n) _ (λ left. value_into_sorted v n left)
+  set_sorted (SetField n f a) = any IsSet (pointer_at s n) _ (λ p.
+      next (RoleThere (lists_of file)) IsSet (role_at s f) _ (any_there (lists_of file) s all f) (λ field is. atom_into_sorted p a f field is))
 
   abbrev IsRefresh : Primitive → Type 0
   IsRefresh = IsOf file is_refresh
 
-  refresh_from_sorted : (p at : ℕ) (place : PlaceTree) → Has IsRefresh (refresh_from s p at place)
-  refresh_from_sorted p at (PlaceOf n None) = any IsRefresh (pointer_at s n at) _ (λ q. record { sorted = tt; no_call = refl; of_kind = refl })
-  refresh_from_sorted p at (PlaceOf n (Some f)) = any IsRefresh (pointer_at s n at) _ (λ q.
-      next (λ g. IsField (lists_of file) g.0 true) IsRefresh (pointer_field_at s f (at + 2)) _ (pointer_field_there (lists_of file) s all f (at + 2)) (λ g is. record { sorted = is; no_call = refl; of_kind = refl }))
+  refresh_from_sorted : (p : ℕ) (place : PlaceTree) → Has IsRefresh (refresh_from s p place)
+  refresh_from_sorted p (PlaceOf n None) = any IsRefresh (pointer_at s n) _ (λ q. record { sorted = tt; no_call = refl; of_kind = refl })
+  refresh_from_sorted p (PlaceOf n (Some f)) = any IsRefresh (pointer_at s n) _ (λ q.
+      next (λ g. IsField (lists_of file) g.0 true) IsRefresh (pointer_field_at s f) _ (pointer_field_there (lists_of file) s all f) (λ g is. record { sorted = is; no_call = refl; of_kind = refl }))
 
-  refresh_name_sorted : (at : ℕ) (n : Text) (place : PlaceTree) → Has IsRefresh (refresh_name_means s at n place)
+  refresh_name_sorted : (n : Placed Text) (place : PlaceTree) → Has IsRefresh (refresh_name_means s n place)
   unfolding refresh_name_means
-  refresh_name_sorted at n place = any IsRefresh (pointer_local_at s n at) _ (λ p. refresh_from_sorted p (at + 2) place)
+  refresh_name_sorted n place = any IsRefresh (pointer_local_at s n) _ (λ p. refresh_from_sorted p place)
 
   abbrev pub IsPlain : Primitive → Type 0
   IsPlain = IsOf file every_kind
@@ -223,26 +222,26 @@ module _ (file : File) (s : Scope) (all : AllThere (lists_of file) s) where
   plain : {kind : Primitive → Bool} (k : Primitive) → IsOf file kind k → IsPlain k
   plain k is = record { sorted = is.sorted; no_call = is.no_call; of_kind = refl }
 
-  refresh_sorted : (at : ℕ) (t : RefreshTree) → Has IsPlain (refresh_means s at t)
+  refresh_sorted : (t : RefreshTree) → Has IsPlain (refresh_means s t)
   unfolding refresh_means
-  refresh_sorted at (RefreshName n place) = weaker IsRefresh IsPlain (refresh_name_means s at n place) (λ k is. plain k is) (refresh_name_sorted at n place)
-  refresh_sorted at (RefreshField n f m) = any IsPlain (pointer_at s n at) _ (λ p.
-      next (λ g. IsField (lists_of file) g.0 true) IsPlain (pointer_field_at s f (at + 2)) _ (pointer_field_there (lists_of file) s all f (at + 2)) (λ g is.
-      any IsPlain (pointer_at s m (at + 4)) _ (λ q. record { sorted = is; no_call = refl; of_kind = refl })))
+  refresh_sorted (RefreshName n place) = weaker IsRefresh IsPlain (refresh_name_means s n place) (λ k is. plain k is) (refresh_name_sorted n place)
+  refresh_sorted (RefreshField n f m) = any IsPlain (pointer_at s n) _ (λ p.
+      next (λ g. IsField (lists_of file) g.0 true) IsPlain (pointer_field_at s f) _ (pointer_field_there (lists_of file) s all f) (λ g is.
+      any IsPlain (pointer_at s m) _ (λ q. record { sorted = is; no_call = refl; of_kind = refl })))
 
   -- a value that fits the auxiliary field; `init` has no acting thread
   record IsValueOf (in_init : Bool) (g : ℕ) (v : GhostVal) : Type 0 where
     fits : WriteIsWellSorted file g v
     starts : (in_init && is_me v) ≡ false
 
-  ghost_value_sorted : (in_init : Bool) (g at : ℕ) (t : Bool) (v : GhostValueTree) → AuxiliaryFound (lists_of file) (g, t) → Has (IsValueOf in_init g) (ghost_value_means s in_init g t at v)
-  ghost_value_sorted in_init g at false (NameGhost n) is = next (ValueFound (lists_of file) g) (IsValueOf in_init g) (value_at s g n at) _ (value_is_there (lists_of file) s all n at g) (λ v a. record { fits = a; starts = and-false in_init })
-  ghost_value_sorted in_init g at true (NameGhost n) is = next (λ v. ⊥) (IsValueOf in_init g) (thread_at s n at) _ (no_thread_there (lists_of file) s all n at) (λ v a. absurd a)
-  ghost_value_sorted in_init g at false MeGhost is = tt
-  ghost_value_sorted false g at true MeGhost is = record { fits = (is.0, is.1, threads_have_none is.0.values is.2); starts = refl }
-  ghost_value_sorted true g at true MeGhost is = tt
-  ghost_value_sorted in_init g at false NoneGhost is = tt
-  ghost_value_sorted in_init g at true NoneGhost is = record { fits = (is.0, is.1, threads_have_none is.0.values is.2); starts = and-false in_init }
+  ghost_value_sorted : (in_init : Bool) (g : ℕ) (t : Bool) (v : GhostValueTree) → AuxiliaryFound (lists_of file) (g, t) → Has (IsValueOf in_init g) (ghost_value_means s in_init g t v)
+  ghost_value_sorted in_init g false (NameGhost n) is = next (ValueFound (lists_of file) g) (IsValueOf in_init g) (value_at s g n) _ (value_is_there (lists_of file) s all n g) (λ v a. record { fits = a; starts = and-false in_init })
+  ghost_value_sorted in_init g true (NameGhost n) is = next (λ v. ⊥) (IsValueOf in_init g) (thread_at s n) _ (no_thread_there (lists_of file) s all n) (λ v a. absurd a)
+  ghost_value_sorted in_init g false (MeGhost at) is = tt
+  ghost_value_sorted false g true (MeGhost at) is = record { fits = (is.0, is.1, threads_have_none is.0.values is.2); starts = refl }
+  ghost_value_sorted true g true (MeGhost at) is = tt
+  ghost_value_sorted in_init g false (NoneGhost at) is = tt
+  ghost_value_sorted in_init g true (NoneGhost at) is = record { fits = (is.0, is.1, threads_have_none is.0.values is.2); starts = and-false in_init }
 
   -- in `init` it is initial
   abbrev writes : Bool → Primitive → Bool
@@ -252,55 +251,55 @@ module _ (file : File) (s : Scope) (all : AllThere (lists_of file) s) where
   write_starts true v e = ap not e
   write_starts false v e = refl
 
-  ghost_set_sorted : (in_init : Bool) (at : ℕ) (t : GhostSetTree) → Has (IsOf file (writes in_init)) (ghost_set_means s in_init at t)
+  ghost_set_sorted : (in_init : Bool) (t : GhostSetTree) → Has (IsOf file (writes in_init)) (ghost_set_means s in_init t)
   unfolding ghost_set_means
-  ghost_set_sorted in_init at (SetGhost n f v) = any (IsOf file (writes in_init)) (pointer_at s n (at + 1)) _ (λ p.
-      next (AuxiliaryFound (lists_of file)) (IsOf file (writes in_init)) (auxiliary_at s f (at + 3)) _ (auxiliary_there (lists_of file) s all f (at + 3)) (λ g is.
-      next (IsValueOf in_init g.0) (IsOf file (writes in_init)) (ghost_value_means s in_init g.0 g.1 (at + 5) v) _ (ghost_value_sorted in_init g.0 (at + 5) g.1 v is) (λ w fits.
+  ghost_set_sorted in_init (SetGhost n f v) = any (IsOf file (writes in_init)) (pointer_at s n) _ (λ p.
+      next (AuxiliaryFound (lists_of file)) (IsOf file (writes in_init)) (auxiliary_at s f) _ (auxiliary_there (lists_of file) s all f) (λ g is.
+      next (IsValueOf in_init g.0) (IsOf file (writes in_init)) (ghost_value_means s in_init g.0 g.1 v) _ (ghost_value_sorted in_init g.0 g.1 v is) (λ w fits.
       record { sorted = fits.fits; no_call = refl; of_kind = write_starts in_init w fits.starts })))
 
   abbrev IsTest : Primitive → Type 0
   IsTest = IsOf file is_test
 
-  equality_sorted : (p : Var) (is_equal : Bool) (at : ℕ) (a : AtomTree) → Has IsTest (pointer_equality s p is_equal at a)
-  equality_sorted p true at NullAtom = record { sorted = tt; no_call = refl; of_kind = refl }
-  equality_sorted p false at NullAtom = record { sorted = tt; no_call = refl; of_kind = refl }
-  equality_sorted p is_equal at (NumberAtom n) = tt
-  equality_sorted p true at (NameAtom n) = any IsTest (pointer_at s n at) _ (λ q. record { sorted = tt; no_call = refl; of_kind = refl })
-  equality_sorted p false at (NameAtom n) = any IsTest (pointer_at s n at) _ (λ q. record { sorted = tt; no_call = refl; of_kind = refl })
+  equality_sorted : (p : Var) (is_equal : Bool) (a : AtomTree) → Has IsTest (pointer_equality s p is_equal a)
+  equality_sorted p true (NullAtom at) = record { sorted = tt; no_call = refl; of_kind = refl }
+  equality_sorted p false (NullAtom at) = record { sorted = tt; no_call = refl; of_kind = refl }
+  equality_sorted p is_equal (NumberAtom n) = tt
+  equality_sorted p true (NameAtom n) = any IsTest (pointer_at s n) _ (λ q. record { sorted = tt; no_call = refl; of_kind = refl })
+  equality_sorted p false (NameAtom n) = any IsTest (pointer_at s n) _ (λ q. record { sorted = tt; no_call = refl; of_kind = refl })
 
   pointer_test_sorted : (p : Var) (at : ℕ) (c : Comparison) (a : AtomTree) → Has IsTest (pointer_test s p at c a)
-  pointer_test_sorted p at SameAs a = equality_sorted p true (at + 1) a
-  pointer_test_sorted p at OtherThan a = equality_sorted p false (at + 1) a
+  pointer_test_sorted p at SameAs a = equality_sorted p true a
+  pointer_test_sorted p at OtherThan a = equality_sorted p false a
   pointer_test_sorted p at LessThan a = tt
   pointer_test_sorted p at NotLessThan a = tt
 
-  data_test_sorted : (x : ℕ) (rel : Rel) (at : ℕ) (a : AtomTree) → Has IsTest (data_test s x rel at a)
-  data_test_sorted x rel at NullAtom = tt
-  data_test_sorted x rel at (NumberAtom n) = record { sorted = tt; no_call = refl; of_kind = refl }
-  data_test_sorted x rel at (NameAtom n) = any IsTest (data_at s n at) _ (λ y. record { sorted = tt; no_call = refl; of_kind = refl })
+  data_test_sorted : (x : ℕ) (rel : Rel) (a : AtomTree) → Has IsTest (data_test s x rel a)
+  data_test_sorted x rel (NullAtom at) = tt
+  data_test_sorted x rel (NumberAtom n) = record { sorted = tt; no_call = refl; of_kind = refl }
+  data_test_sorted x rel (NameAtom n) = any IsTest (data_at s n) _ (λ y. record { sorted = tt; no_call = refl; of_kind = refl })
 
-  test_of_sorted : (at : ℕ) (c : Comparison) (a : AtomTree) (left : Role) → Has IsTest (test_of s at c a left)
-  test_of_sorted at c a (pointer_variable p) = pointer_test_sorted p (at + 1) c a
-  test_of_sorted at c a (data_local x) = data_test_sorted x _ (at + 2) a
-  test_of_sorted at c a left = tt
+  test_of_sorted : (n : Placed Text) (c : Placed Comparison) (a : AtomTree) (left : Role) → Has IsTest (test_of s n c a left)
+  test_of_sorted n c a (pointer_variable p) = pointer_test_sorted p c.at c.value a
+  test_of_sorted n c a (data_local x) = data_test_sorted x _ a
+  test_of_sorted n c a left = tt
 
-  test_sorted : (at : ℕ) (t : TestTree) → Has IsTest (test_means s at t)
+  test_sorted : (t : TestTree) → Has IsTest (test_means s t)
   unfolding test_means
-  test_sorted at (MarkedTest n) =
-      any IsTest (pointer_at s n (at + 1)) _ (λ p. record { sorted = tt; no_call = refl; of_kind = refl })
-  test_sorted at (UnmarkedTest n) =
-      any IsTest (pointer_at s n (at + 1)) _ (λ p. record { sorted = tt; no_call = refl; of_kind = refl })
-  test_sorted at (Compares n c a) = any IsTest (known at (role_of s n)) _ (λ left. test_of_sorted at c a left)
+  test_sorted (MarkedTest n) =
+      any IsTest (pointer_at s n) _ (λ p. record { sorted = tt; no_call = refl; of_kind = refl })
+  test_sorted (UnmarkedTest n) =
+      any IsTest (pointer_at s n) _ (λ p. record { sorted = tt; no_call = refl; of_kind = refl })
+  test_sorted (Compares n c a) = any IsTest (role_at s n) _ (λ left. test_of_sorted n c a left)
 
-  pub condition_sorted : (at : ℕ) (c : ConditionTree) → Has (ConditionIsWellSorted file) (condition_means s at c)
+  pub condition_sorted : (c : ConditionTree) → Has (ConditionIsWellSorted file) (condition_means s c)
   unfolding condition_means
-  condition_sorted at (TestCondition t) = next IsTest (ConditionIsWellSorted file) (test_means s at t) _ (test_sorted at t) (λ k is. is.of_kind)
-  condition_sorted at (RefreshCondition n place) = next IsRefresh (ConditionIsWellSorted file) (refresh_name_means s at n place) _ (refresh_name_sorted at n place) (λ k is. (is.sorted, is.of_kind))
-  condition_sorted at (CasCondition is_active n old new) = let place : ℕ = at + 2 + word_size is_active in
-      any (ConditionIsWellSorted file) (pointer_at s n place) _ (λ p.
-      any (ConditionIsWellSorted file) (pointer_or_null s (place + 2) old) _ (λ q.
-      any (ConditionIsWellSorted file) (pointer_or_null s (place + 4) new) _ (λ r. tt)))
+  condition_sorted (TestCondition t) = next IsTest (ConditionIsWellSorted file) (test_means s t) _ (test_sorted t) (λ k is. is.of_kind)
+  condition_sorted (RefreshCondition n place) = next IsRefresh (ConditionIsWellSorted file) (refresh_name_means s n place) _ (refresh_name_sorted n place) (λ k is. (is.sorted, is.of_kind))
+  condition_sorted (CasCondition is_active n old new) =
+      any (ConditionIsWellSorted file) (pointer_at s n) _ (λ p.
+      any (ConditionIsWellSorted file) (pointer_or_null s old) _ (λ q.
+      any (ConditionIsWellSorted file) (pointer_or_null s new) _ (λ r. tt)))
 
   -- `skip` is none
   abbrev pub MaybePlain : Option Primitive → Type 0
@@ -309,14 +308,14 @@ module _ (file : File) (s : Scope) (all : AllThere (lists_of file) s) where
   some_plain : (kind : Primitive → Bool) (m : Result Primitive ParseFault) → Has (IsOf file kind) m → Has MaybePlain (m >>= λ k. Ok (Some k))
   some_plain kind m is = next (IsOf file kind) MaybePlain m _ is (λ k a. plain k a)
 
-  pub primitive_sorted : (at : ℕ) (p : PrimitiveTree) → Has MaybePlain (primitive_means s at p)
+  pub primitive_sorted : (p : PrimitiveTree) → Has MaybePlain (primitive_means s p)
   unfolding primitive_means
-  primitive_sorted at (SetPrimitive set) = some_plain is_initial (set_means s at set) (set_sorted at set)
-  primitive_sorted at (RefreshPrimitive refresh) = some_plain every_kind (refresh_means s at refresh) (refresh_sorted at refresh)
-  primitive_sorted at (GhostPrimitive set) = some_plain (writes false) (ghost_set_means s false at set) (ghost_set_sorted false at set)
-  primitive_sorted at (ActivePrimitive n) = any MaybePlain (pointer_at s n (at + 1)) _ (λ p. record { sorted = tt; no_call = refl; of_kind = refl })
-  primitive_sorted at (AssumePrimitive t) = some_plain is_test (test_means s (at + 1) t) (test_sorted (at + 1) t)
-  primitive_sorted at SkipPrimitive = tt
+  primitive_sorted (SetPrimitive set) = some_plain is_initial (set_means s set) (set_sorted set)
+  primitive_sorted (RefreshPrimitive refresh) = some_plain every_kind (refresh_means s refresh) (refresh_sorted refresh)
+  primitive_sorted (GhostPrimitive set) = some_plain (writes false) (ghost_set_means s false set) (ghost_set_sorted false set)
+  primitive_sorted (ActivePrimitive n) = any MaybePlain (pointer_at s n) _ (λ p. record { sorted = tt; no_call = refl; of_kind = refl })
+  primitive_sorted (AssumePrimitive t) = some_plain is_test (test_means s t) (test_sorted t)
+  primitive_sorted SkipPrimitive = tt
 
   abbrev pub MaybeInitial : Option Primitive → Type 0
   MaybeInitial k = IfSome k IsSet
@@ -324,25 +323,25 @@ module _ (file : File) (s : Scope) (all : AllThere (lists_of file) s) where
   initial_of : (k : Primitive) → IsOf file (writes true) k → IsSet k
   initial_of k is = record { sorted = is.sorted; no_call = is.no_call; of_kind = is.of_kind }
 
-  pub initial_sorted : (at : ℕ) (i : InitialTree) → Has MaybeInitial (initial_means s at i)
+  pub initial_sorted : (i : InitialTree) → Has MaybeInitial (initial_means s i)
   unfolding initial_means
-  initial_sorted at (InitialSet set) = next IsSet MaybeInitial (set_means s at set) _ (set_sorted at set) (λ k is. is)
-  initial_sorted at (InitialGhost set) = next (IsOf file (writes true)) MaybeInitial (ghost_set_means s true at set) _ (ghost_set_sorted true at set) (λ k is. initial_of k is)
+  initial_sorted (InitialSet set) = next IsSet MaybeInitial (set_means s set) _ (set_sorted set) (λ k is. is)
+  initial_sorted (InitialGhost set) = next (IsOf file (writes true)) MaybeInitial (ghost_set_means s true set) _ (ghost_set_sorted true set) (λ k is. initial_of k is)
 
   pub record IsCall (c : CallMeaning) : Type 0 where
     pub sorted : CallIsWellSorted file c.0 c.1
     pub claim : ClaimFits c.2 c.1
 
-  argument_sorted : (f : FuncId) (p : Bool) (at : ℕ) (a : ArgumentTree) → IsFunction (lists_of file) f.0 p → Has IsCall (argument_means s f p at a)
-  argument_sorted f false at NoArgument is = record { sorted = is; claim = refl }
-  argument_sorted f false at NullArgument is = tt
-  argument_sorted f false at (NameArgument n) is = tt
-  argument_sorted f false at (ActiveArgument n) is = tt
-  argument_sorted f true at NoArgument is = tt
-  argument_sorted f true at NullArgument is = unless IsCall (is_retire f) _ _ (λ other. record { sorted = (is, other); claim = refl })
-  argument_sorted f true at (NameArgument n) is = any IsCall (pointer_at s n (at + 2)) _ (λ p. record { sorted = is; claim = tt })
-  argument_sorted f true at (ActiveArgument n) is = any IsCall (pointer_at s n (at + 3)) _ (λ p. record { sorted = is; claim = tt })
+  argument_sorted : (n : Placed Text) (f : FuncId) (p : Bool) (a : ArgumentTree) → IsFunction (lists_of file) f.0 p → Has IsCall (argument_means s n f p a)
+  argument_sorted n f false NoArgument is = record { sorted = is; claim = refl }
+  argument_sorted n f false NullArgument is = tt
+  argument_sorted n f false (NameArgument m) is = tt
+  argument_sorted n f false (ActiveArgument m) is = tt
+  argument_sorted n f true NoArgument is = tt
+  argument_sorted n f true NullArgument is = unless IsCall (is_retire f) _ _ (λ other. record { sorted = (is, other); claim = refl })
+  argument_sorted n f true (NameArgument m) is = any IsCall (pointer_at s m) _ (λ p. record { sorted = is; claim = tt })
+  argument_sorted n f true (ActiveArgument m) is = any IsCall (pointer_at s m) _ (λ p. record { sorted = is; claim = tt })
 
-  pub call_sorted : (at : ℕ) (n : Text) (a : ArgumentTree) → Has IsCall (call_means s at n a)
+  pub call_sorted : (n : Placed Text) (a : ArgumentTree) → Has IsCall (call_means s n a)
   unfolding call_means
-  call_sorted at n a = next (FunctionFound (lists_of file)) IsCall (function_at s n at) _ (function_is_there (lists_of file) s all n at) (λ f is. argument_sorted f.0 f.1 at a is)
+  call_sorted n a = next (FunctionFound (lists_of file)) IsCall (function_at s n) _ (function_is_there (lists_of file) s all n) (λ f is. argument_sorted n f.0 f.1 a is)

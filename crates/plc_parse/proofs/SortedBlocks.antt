@@ -18,8 +18,7 @@ use Rattle.plc_lang.specs.Fit.{StatementsFit}
 use Rattle.plc_lang.specs.Locals.{is_pointer, is_parameter}
 use Rattle.plc_lang.specs.Statements.{Statement, Statements, Blocks}
 use Rattle.plc_lang.specs.WellSorted.{AreWellSorted, is_call, ConditionIsWellSorted, StatementIsWellSorted, StatementsAreWellSorted, BlocksAreWellSorted, ParametersAreFirst, OpIsWellSorted}
-use Rattle.plc_syntax.specs.Trees.{Text, FieldTree, PointerField as PointerFieldTree, DataField as DataFieldTree, StatementTree, PrimitiveStatement, AtomicStatement, CallStatement, IfStatement, ChooseStatement, LoopStatement, BreakStatement, ReturnStatement, LabelStatement, BlockTree, NoStatement, Then as ThenStatement, ElseTree, NoElse, ElseBlock, OrTree, NoOr, OrBlock, OpTree, Operates}
-use Rattle.plc_syntax.specs.Sizes.{primitive_size, condition_size, call_size}
+use Rattle.plc_syntax.specs.Trees.{Text, Placed, FieldTree, PointerField as PointerFieldTree, DataField as DataFieldTree, StatementTree, PrimitiveStatement, AtomicStatement, CallStatement, IfStatement, ChooseStatement, LoopStatement, BreakStatement, ReturnStatement, LabelStatement, BlockTree, NoStatement, Then as ThenStatement, ElseTree, NoElse, ElseBlock, OrTree, NoOr, OrBlock, OpTree, Operates}
 use Rattle.plc_scope.specs.declared.fault.ParseFault.{ParseFault}
 use Rattle.plc_scope.specs.declared.scope.Scope.{Scope}
 use Rattle.plc_scope.specs.declared.binding.Binding.TheVariants.{Taken}
@@ -27,11 +26,12 @@ use Rattle.plc_scope.specs.Scope.{◌>>=◌, most_locals, with_local, declared, 
 use Rattle.plc_scope.specs.Limits.{stands_at}
 use Rattle.plc_scope.specs.Primitives.{primitive_means, condition_means, call_means}
 use Rattle.plc_scope.proofs.Holds.{Has, weaker, next, unless, both_err}
-use Rattle.plc_parse.specs.Meaning.{counted, before, allocates, count_of, forms_mean, atomic_means, one_or_skip, label_means, during_means, statement_means, statements_mean, else_means, or_means, others_mean, parameters_mean, local_means, locals_mean, op_means, line_at}
+use Rattle.plc_parse.specs.Meaning.{counted, before, allocates, count_of, forms_mean, atomic_means, one_or_skip, label_means, during_means, statement_means, statements_mean, else_means, or_means, parameters_mean, local_means, locals_mean, op_means, placed_op_means, line_at}
 use Rattle.plc_parse.proofs.Fits.{statements_fit, Kept, number_keeps}
 use Rattle.plc_parse.proofs.Upward.{LabelRead, Read as Fitting}
 use Rattle.plc_parse.proofs.Holds.{OneOn}
-use Rattle.plc_parse.proofs.Naming.{BoundAfter, parameters_bound, locals_bound}
+use Rattle.plc_parse.proofs.Reach.{Bound}
+use Rattle.plc_parse.proofs.Naming.{parameters_bound, locals_bound}
 use Rattle.plc_parse.proofs.There.{Lists, IsThere, AllThere, lists_of, Named, named}
 use Rattle.plc_parse.proofs.Numbering.{Numbered, joined, LabelsRead, many_numbered, labels_push}
 use Rattle.plc_parse.proofs.Sorted.{IsOf, every_kind, MaybePlain, primitive_sorted, condition_sorted, IsCall, call_sorted}
@@ -72,57 +72,57 @@ module _ (file : File) (kind : Primitive → Bool) where
     one_new : (has_new && allocates k) ≡ false
 
   -- those after it
-  pub record Step (has_new : Bool) (r : List Primitive × ℕ) : Type 0 where
-    pub each : EachOf r.0
-    pub one_new : count_by is_new r.0 + cond has_new 1 0 ≤ 1
+  pub record Step (has_new : Bool) (ks : List Primitive) : Type 0 where
+    pub each : EachOf ks
+    pub one_new : count_by is_new ks + cond has_new 1 0 ≤ 1
 
   counted_sorted : (n : ℕ) (has_new : Bool) (at : ℕ) (m : Result (Option Primitive) ParseFault) → Has Maybe m → Has (OneCounted has_new) (counted n has_new at m)
   counted_sorted n has_new at (Ok None) h = record { is = tt; one_new = and-false has_new }
   counted_sorted n has_new at (Ok (Some k)) h = unless (OneCounted has_new) (n == most limits.Prims) _ _ (λ few. unless (OneCounted has_new) (has_new && is_new k) _ (Ok (Some k)) (λ one. record { is = h; one_new = one }))
   counted_sorted n has_new at (Err e) h = both_err (OneCounted has_new) (stands_at at e) (n == most limits.Prims) e _ e
 
-  before_sorted : (has_new : Bool) (k : Option Primitive) (others : List Primitive × ℕ) → OneCounted has_new k → Step (has_new || allocates k) others → Step has_new (before k others.0, others.1)
-  before_sorted has_new None others a b = record { each = b.each; one_new = counts has_new false (count_by is_new others.0) (count_by is_new others.0) (omega arith) b.one_new a.one_new }
+  before_sorted : (has_new : Bool) (k : Option Primitive) (others : List Primitive) → OneCounted has_new k → Step (has_new || allocates k) others → Step has_new (before k others)
+  before_sorted has_new None others a b = record { each = b.each; one_new = counts has_new false (count_by is_new others) (count_by is_new others) (omega arith) b.one_new a.one_new }
   before_sorted has_new (Some k) others a b = record {
     each = (a.is, b.each);
-    one_new = counts has_new (is_new k) (count_by is_new others.0) (count_by is_new (k ∷ others.0)) (omega (arith, sum_by-cons (λ x. cond (is_new x) 1 0) k others.0)) b.one_new a.one_new;
+    one_new = counts has_new (is_new k) (count_by is_new others) (count_by is_new (k ∷ others)) (omega (arith, sum_by-cons (λ x. cond (is_new x) 1 0) k others)) b.one_new a.one_new;
   }
 
   at_most_one : (has_new : Bool) → 0 + cond has_new 1 0 ≤ 1
   at_most_one true = omega arith
   at_most_one false = omega arith
 
-  module _ {X : Type 0} (means : ℕ → X → Result (Option Primitive) ParseFault) (size : X → ℕ) (each : (at : ℕ) (x : X) → Has Maybe (means at x)) where
-    pub forms_sorted : (n : ℕ) (has_new : Bool) (at : ℕ) (xs : List X) → Has (Step has_new) (forms_mean means size n has_new at xs)
-    forms_sorted n has_new at [] = record { each = tt; one_new = at_most_one has_new }
-    forms_sorted n has_new at (x ∷ xs) = next (OneCounted has_new) (Step has_new) (counted n has_new at (means at x)) _ (counted_sorted n has_new at (means at x) (each at x)) (λ k a.
-        next (Step (has_new || allocates k)) (Step has_new) (forms_mean means size (n + count_of k) (has_new || allocates k) (at + size x + 1) xs) _ (forms_sorted (n + count_of k) (has_new || allocates k) (at + size x + 1) xs) (λ others b.
+  module _ {X : Type 0} (means : X → Result (Option Primitive) ParseFault) (each : (x : X) → Has Maybe (means x)) where
+    pub forms_sorted : (n : ℕ) (has_new : Bool) (xs : List (Placed X)) → Has (Step has_new) (forms_mean means n has_new xs)
+    forms_sorted n has_new [] = record { each = tt; one_new = at_most_one has_new }
+    forms_sorted n has_new (x ∷ xs) = next (OneCounted has_new) (Step has_new) (counted n has_new x.at (means x.value)) _ (counted_sorted n has_new x.at (means x.value) (each x.value)) (λ k a.
+        next (Step (has_new || allocates k)) (Step has_new) (forms_mean means (n + count_of k) (has_new || allocates k) xs) _ (forms_sorted (n + count_of k) (has_new || allocates k) xs) (λ others b.
         before_sorted has_new k others a b))
 
 -- ---- statements
 
 -- what was read is well sorted, and what is in reach after it is there
-pub record StatementRead (file : File) {Y : Type 0} (P : Y → Type 0) (r : Y × Scope × ℕ) : Type 0 where
+pub record StatementRead (file : File) {Y : Type 0} (P : Y → Type 0) (r : Y × Scope) : Type 0 where
   pub is : P r.0
   pub there : AllThere (lists_of file) r.1
 
-label_there : (d : Lists) (s : Scope) (at : ℕ) (n : Text) → AllThere d s → Has (LabelRead (AllThere d)) (label_means s at n)
-label_there d s at n h = unless (LabelRead (AllThere d)) (length s.labels == most limits.Labels) _ _ (λ few.
-    next (AllThere d) (LabelRead (AllThere d)) (declared_label s n (at + 1)) _
-    (next (Named s Taken) (AllThere d) (declared s n (at + 1) Taken) _ (named s n (at + 1) Taken) (λ t f. f.there d tt h)) (λ t k. k))
+label_there : (d : Lists) (s : Scope) (n : Placed Text) → AllThere d s → Has (LabelRead (AllThere d)) (label_means s n)
+label_there d s n h = unless (LabelRead (AllThere d)) (length s.labels == most limits.Labels) _ _ (λ few.
+    next (AllThere d) (LabelRead (AllThere d)) (declared_label s n) _
+    (next (Named s Taken) (AllThere d) (declared s n Taken) _ (named s n Taken) (λ t f. f.there d tt h)) (λ t k. k))
 
-during_there : (d : Lists) (s : Scope) (at : ℕ) (o : Option Text) → AllThere d s → Has (LabelRead (AllThere d)) (during_means s at o)
-during_there d s at None h = h
-during_there d s at (Some n) h = next (LabelRead (AllThere d)) (LabelRead (AllThere d)) (label_means s at n) _ (label_there d s at n h) (λ l k. k)
+during_there : (d : Lists) (s : Scope) (o : Option (Placed Text)) → AllThere d s → Has (LabelRead (AllThere d)) (during_means s o)
+during_there d s None h = h
+during_there d s (Some n) h = next (LabelRead (AllThere d)) (LabelRead (AllThere d)) (label_means s n) _ (label_there d s n h) (λ l k. k)
 
 module _ (lines : List ℕ) (file : File) where
-  abbrev pub One : Bool → Statement × Scope × ℕ → Type 0
+  abbrev pub One : Bool → Statement × Scope → Type 0
   One in_loop = StatementRead file (StatementIsWellSorted file in_loop)
 
-  abbrev pub Many : Bool → Statements × Scope × ℕ → Type 0
+  abbrev pub Many : Bool → Statements × Scope → Type 0
   Many in_loop = StatementRead file (StatementsAreWellSorted file in_loop)
 
-  abbrev pub Choices : Bool → Blocks × Scope × ℕ → Type 0
+  abbrev pub Choices : Bool → Blocks × Scope → Type 0
   Choices in_loop = StatementRead file (BlocksAreWellSorted file in_loop)
 
   one_sorted : (in_loop : Bool) (k : Option Primitive) → IfSome k (IsOf file every_kind) → StatementIsWellSorted file in_loop (one_or_skip k)
@@ -131,41 +131,41 @@ module _ (lines : List ℕ) (file : File) where
 
   mutual
     statement_sorted : (s : Scope) (in_loop : Bool) (at : ℕ) (st : StatementTree) → AllThere (lists_of file) s → Has (One in_loop) (statement_means lines s in_loop at st)
-    statement_sorted s in_loop at (PrimitiveStatement p) h = next (MaybePlain file s h) (One in_loop) (primitive_means s at p) _ (primitive_sorted file s h at p) (λ k a. record { is = one_sorted in_loop k a; there = h })
-    statement_sorted s in_loop at (AtomicStatement ps) h = next (Step file every_kind false) (One in_loop) (atomic_means s (at + 2) ps) _
-        (forms_sorted file every_kind (primitive_means s) primitive_size (primitive_sorted file s h) 0 false (at + 2) ps) (λ b a.
-        record { is = record { each = each_sorted file every_kind b.0 a.each; one_new = omega (arith, a.one_new); no_call = none_calls file every_kind b.0 a.each }; there = h })
-    statement_sorted s in_loop at (CallStatement f a d) h = next (IsCall file s h) (One in_loop) (call_means s at f a) _ (call_sorted file s h at f a) (λ c b.
-        next (LabelRead (AllThere (lists_of file))) (One in_loop) (during_means s (at + call_size a) d) _ (during_there (lists_of file) s (at + call_size a) d h) (λ l k. record { is = (b.sorted, b.claim); there = k }))
-    statement_sorted s in_loop at (IfStatement c b e) h = next (ConditionIsWellSorted file) (One in_loop) (condition_means s (at + 2) c) _ (condition_sorted file s h (at + 2) c) (λ k a.
-        next (Many in_loop) (One in_loop) (statements_mean lines s in_loop (at + 2 + condition_size c + 2) b) _ (statements_sorted s in_loop (at + 2 + condition_size c + 2) b h) (λ x f.
-        next (Many in_loop) (One in_loop) (else_means lines x.1 in_loop (x.2 + 1) e) _ (else_sorted x.1 in_loop (x.2 + 1) e f.there) (λ y g.
+    statement_sorted s in_loop at (PrimitiveStatement p) h = next (MaybePlain file s h) (One in_loop) (primitive_means s p) _ (primitive_sorted file s h p) (λ k a. record { is = one_sorted in_loop k a; there = h })
+    statement_sorted s in_loop at (AtomicStatement ps) h = next (Step file every_kind false) (One in_loop) (atomic_means s ps) _
+        (forms_sorted file every_kind (primitive_means s) (primitive_sorted file s h) 0 false ps) (λ b a.
+        record { is = record { each = each_sorted file every_kind b a.each; one_new = omega (arith, a.one_new); no_call = none_calls file every_kind b a.each }; there = h })
+    statement_sorted s in_loop at (CallStatement f a d) h = next (IsCall file s h) (One in_loop) (call_means s f a) _ (call_sorted file s h f a) (λ c b.
+        next (LabelRead (AllThere (lists_of file))) (One in_loop) (during_means s d) _ (during_there (lists_of file) s d h) (λ l k. record { is = (b.sorted, b.claim); there = k }))
+    statement_sorted s in_loop at (IfStatement c b e) h = next (ConditionIsWellSorted file) (One in_loop) (condition_means s c) _ (condition_sorted file s h c) (λ k a.
+        next (Many in_loop) (One in_loop) (statements_mean lines s in_loop b) _ (statements_sorted s in_loop b h) (λ x f.
+        next (Many in_loop) (One in_loop) (else_means lines x.1 in_loop e) _ (else_sorted x.1 in_loop e f.there) (λ y g.
         record { is = (a, f.is, g.is); there = g.there })))
     statement_sorted s in_loop at (ChooseStatement a b os) h =
-        next (Many in_loop) (One in_loop) (statements_mean lines s in_loop (at + 2) a) _ (statements_sorted s in_loop (at + 2) a h) (λ x f.
-        next (Many in_loop) (One in_loop) (statements_mean lines x.1 in_loop (x.2 + 3) b) _ (statements_sorted x.1 in_loop (x.2 + 3) b f.there) (λ y g.
-        next (Choices in_loop) (One in_loop) (or_means lines y.1 in_loop (y.2 + 1) os) _ (choices_sorted y.1 in_loop (y.2 + 1) os g.there) (λ z k.
+        next (Many in_loop) (One in_loop) (statements_mean lines s in_loop a) _ (statements_sorted s in_loop a h) (λ x f.
+        next (Many in_loop) (One in_loop) (statements_mean lines x.1 in_loop b) _ (statements_sorted x.1 in_loop b f.there) (λ y g.
+        next (Choices in_loop) (One in_loop) (or_means lines y.1 in_loop os) _ (choices_sorted y.1 in_loop os g.there) (λ z k.
         record { is = (omega arith, (f.is, (g.is, k.is))); there = k.there })))
-    statement_sorted s in_loop at (LoopStatement b) h = next (Many true) (One in_loop) (statements_mean lines s true (at + 2) b) _ (statements_sorted s true (at + 2) b h) (λ x f. record { is = f.is; there = f.there })
+    statement_sorted s in_loop at (LoopStatement b) h = next (Many true) (One in_loop) (statements_mean lines s true b) _ (statements_sorted s true b h) (λ x f. record { is = f.is; there = f.there })
     statement_sorted s true at BreakStatement h = record { is = refl; there = h }
     statement_sorted s false at BreakStatement h = tt
     statement_sorted s in_loop at ReturnStatement h = record { is = tt; there = h }
-    statement_sorted s in_loop at (LabelStatement n) h = next (LabelRead (AllThere (lists_of file))) (One in_loop) (label_means s at n) _ (label_there (lists_of file) s at n h) (λ l k. record { is = tt; there = k })
+    statement_sorted s in_loop at (LabelStatement n) h = next (LabelRead (AllThere (lists_of file))) (One in_loop) (label_means s n) _ (label_there (lists_of file) s n h) (λ l k. record { is = tt; there = k })
 
-    pub statements_sorted : (s : Scope) (in_loop : Bool) (at : ℕ) (b : BlockTree) → AllThere (lists_of file) s → Has (Many in_loop) (statements_mean lines s in_loop at b)
-    statements_sorted s in_loop at NoStatement h = record { is = tt; there = h }
-    statements_sorted s in_loop at (ThenStatement st b) h = next (One in_loop) (Many in_loop) (statement_means lines s in_loop at st) _ (statement_sorted s in_loop at st h) (λ first f.
-        next (Many in_loop) (Many in_loop) (statements_mean lines first.1 in_loop first.2 b) _ (statements_sorted first.1 in_loop first.2 b f.there) (λ others g.
+    pub statements_sorted : (s : Scope) (in_loop : Bool) (b : BlockTree) → AllThere (lists_of file) s → Has (Many in_loop) (statements_mean lines s in_loop b)
+    statements_sorted s in_loop NoStatement h = record { is = tt; there = h }
+    statements_sorted s in_loop (ThenStatement at st b) h = next (One in_loop) (Many in_loop) (statement_means lines s in_loop at st) _ (statement_sorted s in_loop at st h) (λ first f.
+        next (Many in_loop) (Many in_loop) (statements_mean lines first.1 in_loop b) _ (statements_sorted first.1 in_loop b f.there) (λ others g.
         record { is = (f.is, g.is); there = g.there }))
 
-    else_sorted : (s : Scope) (in_loop : Bool) (at : ℕ) (e : ElseTree) → AllThere (lists_of file) s → Has (Many in_loop) (else_means lines s in_loop at e)
-    else_sorted s in_loop at NoElse h = record { is = tt; there = h }
-    else_sorted s in_loop at (ElseBlock b) h = next (Many in_loop) (Many in_loop) (statements_mean lines s in_loop (at + 2) b) _ (statements_sorted s in_loop (at + 2) b h) (λ x f. record { is = f.is; there = f.there })
+    else_sorted : (s : Scope) (in_loop : Bool) (e : ElseTree) → AllThere (lists_of file) s → Has (Many in_loop) (else_means lines s in_loop e)
+    else_sorted s in_loop NoElse h = record { is = tt; there = h }
+    else_sorted s in_loop (ElseBlock b) h = statements_sorted s in_loop b h
 
-    choices_sorted : (s : Scope) (in_loop : Bool) (at : ℕ) (os : OrTree) → AllThere (lists_of file) s → Has (Choices in_loop) (or_means lines s in_loop at os)
-    choices_sorted s in_loop at NoOr h = record { is = tt; there = h }
-    choices_sorted s in_loop at (OrBlock b os) h = next (Many in_loop) (Choices in_loop) (statements_mean lines s in_loop (at + 2) b) _ (statements_sorted s in_loop (at + 2) b h) (λ x f.
-        next (Choices in_loop) (Choices in_loop) (or_means lines x.1 in_loop (x.2 + 1) os) _ (choices_sorted x.1 in_loop (x.2 + 1) os f.there) (λ y g.
+    choices_sorted : (s : Scope) (in_loop : Bool) (os : OrTree) → AllThere (lists_of file) s → Has (Choices in_loop) (or_means lines s in_loop os)
+    choices_sorted s in_loop NoOr h = record { is = tt; there = h }
+    choices_sorted s in_loop (OrBlock b os) h = next (Many in_loop) (Choices in_loop) (statements_mean lines s in_loop b) _ (statements_sorted s in_loop b h) (λ x f.
+        next (Choices in_loop) (Choices in_loop) (or_means lines x.1 in_loop os) _ (choices_sorted x.1 in_loop os f.there) (λ y g.
         record { is = (f.is, g.is); there = g.there }))
 
 -- ---- locals
@@ -195,14 +195,14 @@ AddsLocal s p q t = (n : ℕ) × (t.locals ≡ s.locals ++ record { name = n; po
 adds : (s : Scope) (x : ℕ × Scope) (p q : Bool) → Kept s x → AddsLocal s p q (with_local x.1 x.0 p q)
 adds s x p q k = (x.0, ap (λ ls. ls ++ record { name = x.0; pointer = p; param = q } ∷ []) k.locals, k.labels)
 
-local_adds : (s : Scope) (name : Text) (at : ℕ) (p : Bool) → Has (AddsLocal s p false) (declared_local s name at p)
+local_adds : (s : Scope) (name : Placed Text) (p : Bool) → Has (AddsLocal s p false) (declared_local s name p)
 unfolding declared_local
-local_adds s name at p = unless (AddsLocal s p false) (length s.locals == most_locals) _ (local_number (place_of name s.names.names) s name at >>= λ x. Ok (with_local x.1 x.0 p false)) (λ few.
-    next (Kept s) (AddsLocal s p false) (local_number (place_of name s.names.names) s name at) _ (number_keeps (place_of name s.names.names) s name at) (λ x k. adds s x p false k))
+local_adds s name p = unless (AddsLocal s p false) (length s.locals == most_locals) _ (local_number (place_of name.value s.names.names) s name >>= λ x. Ok (with_local x.1 x.0 p false)) (λ few.
+    next (Kept s) (AddsLocal s p false) (local_number (place_of name.value s.names.names) s name) _ (number_keeps (place_of name.value s.names.names) s name) (λ x k. adds s x p false k))
 
-parameter_adds : (s : Scope) (name : Text) (at : ℕ) → Has (AddsLocal s false true) (declared_parameter s name at)
+parameter_adds : (s : Scope) (name : Placed Text) → Has (AddsLocal s false true) (declared_parameter s name)
 unfolding declared_parameter
-parameter_adds s name at = next (Kept s) (AddsLocal s false true) (local_number (place_of name s.names.names) s name at) _ (number_keeps (place_of name s.names.names) s name at) (λ x k.
+parameter_adds s name = next (Kept s) (AddsLocal s false true) (local_number (place_of name.value s.names.names) s name) _ (number_keeps (place_of name.value s.names.names) s name) (λ x k.
     unless (AddsLocal s false true) (length s.locals == most_locals) _ (Ok (with_local x.1 x.0 false true)) (λ few. adds s x false true k))
 
 heads_on : (s t u : Scope) → Heads s t → AddsLocal t false true u → Heads s u
@@ -235,27 +235,17 @@ headed s t h = record {
   labels = h.labels;
 }
 
-abbrev HeadsAfter : Scope → Scope × ℕ → Type 0
-HeadsAfter s r = Heads s r.0
+parameters_head : (s t : Scope) (names : List (Placed Text)) → Heads s t → Has (Heads s) (parameters_mean t names)
+parameters_head s t [] h = h
+parameters_head s t (n ∷ ns) h = next (AddsLocal t false true) (Heads s) (declared_parameter t n) _ (parameter_adds t n) (λ u a. parameters_head s u ns (heads_on s t u h a))
 
-abbrev pub HeadedAfter : Scope → Scope × ℕ → Type 0
-HeadedAfter s r = Headed s r.0
+local_headed : (s t : Scope) (l : FieldTree) → Headed s t → Has (Headed s) (local_means t l)
+local_headed s t (PointerFieldTree name) h = weaker (AddsLocal t true false) (Headed s) (declared_local t name true) (λ u a. headed_on s t u true h a) (local_adds t name true)
+local_headed s t (DataFieldTree name) h = weaker (AddsLocal t false false) (Headed s) (declared_local t name false) (λ u a. headed_on s t u false h a) (local_adds t name false)
 
-others_head : (s t : Scope) (at : ℕ) (names : List Text) → Heads s t → Has (HeadsAfter s) (others_mean t at names)
-others_head s t at [] h = h
-others_head s t at (n ∷ ns) h = next (AddsLocal t false true) (HeadsAfter s) (declared_parameter t n (at + 1)) _ (parameter_adds t n (at + 1)) (λ u a. others_head s u (at + 2) ns (heads_on s t u h a))
-
-parameters_head : (s t : Scope) (at : ℕ) (names : List Text) → Heads s t → Has (HeadsAfter s) (parameters_mean t at names)
-parameters_head s t at [] h = h
-parameters_head s t at (n ∷ ns) h = next (AddsLocal t false true) (HeadsAfter s) (declared_parameter t n at) _ (parameter_adds t n at) (λ u a. others_head s u (at + 1) ns (heads_on s t u h a))
-
-local_headed : (s t : Scope) (at : ℕ) (l : FieldTree) → Headed s t → Has (Headed s) (local_means t at l)
-local_headed s t at (PointerFieldTree name) h = weaker (AddsLocal t true false) (Headed s) (declared_local t name (at + 1) true) (λ u a. headed_on s t u true h a) (local_adds t name (at + 1) true)
-local_headed s t at (DataFieldTree name) h = weaker (AddsLocal t false false) (Headed s) (declared_local t name (at + 1) false) (λ u a. headed_on s t u false h a) (local_adds t name (at + 1) false)
-
-locals_headed : (s t : Scope) (at : ℕ) (ls : List FieldTree) → Headed s t → Has (HeadedAfter s) (locals_mean t at ls)
-locals_headed s t at [] h = h
-locals_headed s t at (l ∷ ls) h = next (Headed s) (HeadedAfter s) (local_means t at l) _ (local_headed s t at l h) (λ u k. locals_headed s u (at + 3) ls k)
+locals_headed : (s t : Scope) (ls : List FieldTree) → Headed s t → Has (Headed s) (locals_mean t ls)
+locals_headed s t [] h = h
+locals_headed s t (l ∷ ls) h = next (Headed s) (Headed s) (local_means t l) _ (local_headed s t l h) (λ u k. locals_headed s u ls k)
 
 -- ---- operations, whatever else the file has
 
@@ -281,22 +271,22 @@ module _ (d : Lists) where
     pub locals : s.locals ≡ []
     pub numbered : Numbered 0 (length s.labels) (concat (labels_by_op ops))
 
-  abbrev pub OneOp : List Op → Op × Scope × ℕ → Type 0
+  abbrev pub OneOp : List Op → Op × Scope → Type 0
   OneOp = OneOn OpSorted AfterOps
 
   -- its statements in each file, and what is after them
-  record Body (from : Scope) (r : Statements × Scope × ℕ) : Type 0 where
+  record Body (from : Scope) (r : Statements × Scope) : Type 0 where
     sorted : (w : With d) → StatementsAreWellSorted w.0 false r.0
     there : AllThere d r.1
     numbered : LabelsRead block_labels from r
 
-  body_sorted : (lines : List ℕ) (s : Scope) (at : ℕ) (b : BlockTree) → AllThere d s → Has (Body s) (statements_mean lines s false at b)
-  body_sorted lines s at b h = at_once (statements_mean lines s false at b)
-      (λ w. statements_sorted lines w.0 s false at b (there_with d s w h))
-      (statements_fit (AllThere d) (label_there d) lines s false at b h)
-      (many_numbered lines s false at b)
+  body_sorted : (lines : List ℕ) (s : Scope) (b : BlockTree) → AllThere d s → Has (Body s) (statements_mean lines s false b)
+  body_sorted lines s b h = at_once (statements_mean lines s false b)
+      (λ w. statements_sorted lines w.0 s false b (there_with d s w h))
+      (statements_fit (AllThere d) (label_there d) lines s false b h)
+      (many_numbered lines s false b)
     where
-      at_once : (r : Result (Statements × Scope × ℕ) ParseFault) → ((w : With d) → Has (StatementRead w.0 (StatementsAreWellSorted w.0 false)) r) → Has (Fitting (AllThere d) StatementsFit) r → Has (LabelsRead block_labels s) r → Has (Body s) r
+      at_once : (r : Result (Statements × Scope) ParseFault) → ((w : With d) → Has (StatementRead w.0 (StatementsAreWellSorted w.0 false)) r) → Has (Fitting (AllThere d) StatementsFit) r → Has (LabelsRead block_labels s) r → Has (Body s) r
       at_once (Ok x) a c e = record { sorted = λ w. (a w).is; there = c.state; numbered = e }
       at_once (Err f) a c e = tt
 
@@ -304,18 +294,18 @@ module _ (d : Lists) where
   no_locals t e = record { all = rw e refl; others = rw e refl; data_alone = rw e refl; labels = refl }
 
   -- the locals that were declared, and what names stand for after them
-  record LocalsRead (from : Scope) (r : Scope × ℕ) : Type 0 where
-    headed : HeadedAfter from r
-    there : AllThere d r.0
+  record LocalsRead (from to : Scope) : Type 0 where
+    headed : Headed from to
+    there : AllThere d to
 
-  locals_read : (s : Scope) (at : ℕ) (ps : List Text) (ls : List FieldTree) → AllThere d s → s.locals ≡ []
-      → Has (LocalsRead s) (parameters_mean s at ps >>= λ p. locals_mean p.0 (p.1 + 2) ls)
-  locals_read s at ps ls h none =
-      next (λ p. HeadsAfter s p × BoundAfter (IsThere d) p) (LocalsRead s) (parameters_mean s at ps) _
-      (both (HeadsAfter s) (BoundAfter (IsThere d)) (parameters_mean s at ps) (parameters_head s s at ps (no_locals s none)) (parameters_bound (IsThere d) tt s at ps h)) (λ p k.
-      at_once (locals_mean p.0 (p.1 + 2) ls) (locals_headed s p.0 (p.1 + 2) ls (headed s p.0 k.0)) (locals_bound (IsThere d) tt p.0 (p.1 + 2) ls k.1))
+  locals_read : (s : Scope) (ps : List (Placed Text)) (ls : List FieldTree) → AllThere d s → s.locals ≡ []
+      → Has (LocalsRead s) (parameters_mean s ps >>= λ p. locals_mean p ls)
+  locals_read s ps ls h none =
+      next (λ p. Heads s p × Bound (IsThere d) p) (LocalsRead s) (parameters_mean s ps) _
+      (both (Heads s) (Bound (IsThere d)) (parameters_mean s ps) (parameters_head s s ps (no_locals s none)) (parameters_bound (IsThere d) tt s ps h)) (λ p k.
+      at_once (locals_mean p ls) (locals_headed s p ls (headed s p k.0)) (locals_bound (IsThere d) tt p ls k.1))
     where
-      at_once : (r : Result (Scope × ℕ) ParseFault) → Has (HeadedAfter s) r → Has (BoundAfter (IsThere d)) r → Has (LocalsRead s) r
+      at_once : (r : Result Scope ParseFault) → Has (Headed s) r → Has (Bound (IsThere d)) r → Has (LocalsRead s) r
       at_once (Ok x) a b = record { headed = a; there = b }
       at_once (Err e) a b = tt
 
@@ -323,16 +313,19 @@ module _ (d : Lists) where
   joins P (Ok x) f g h = h
   joins P (Err e) f g h = tt
 
-  pub op_sorted : (lines : List ℕ) (ops : List Op) (s : Scope) (n at : ℕ) (o : OpTree) → AfterOps ops s → Has (OneOp ops) (op_means lines s n at o)
-  op_sorted lines ops s n at (Operates name ps ls b) h = unless (OneOp ops) (n == most limits.Ops) _ _ (λ few.
-      next (Named s Taken) (OneOp ops) (declared s name (at + 1) Taken) _ (named s name (at + 1) Taken) (λ t k.
-      joins (OneOp ops) (parameters_mean t (at + 3) ps) _ _ (
-      next (LocalsRead t) (OneOp ops) (parameters_mean t (at + 3) ps >>= λ p. locals_mean p.0 (p.1 + 2) ls) _ (locals_read t (at + 3) ps ls (k.there d tt h.there) (k.keeps.locals ∙ h.locals)) (λ l read.
-      next (Body l.0) (OneOp ops) (statements_mean lines l.0 false l.1 b) _ (body_sorted lines l.0 l.1 b read.there) (λ body f.
-      let same : length l.0.labels ≡ length s.labels = ap length (read.headed.labels ∙ k.keeps.labels) in
-      let here : Numbered (length s.labels) (length body.1.labels) (block_labels body.0) = subst (λ m. Numbered m (length body.1.labels) (block_labels body.0)) same f.numbered in
-      let o : Op = record { name = length s.names.names; locals = l.0.locals; body = body.0; line = line_at lines at } in
-      record {
-        is = λ w. record { parameters = read.headed.parameters; body = f.sorted w };
-        state = record { there = f.there; locals = refl; numbered = subst (Numbered 0 (length body.1.labels)) (sym (labels_push ops o)) (joined h.numbered here) };
-      })))))
+  pub op_sorted : (lines : List ℕ) (ops : List Op) (s : Scope) (n : ℕ) (o : Placed OpTree) → AfterOps ops s → Has (OneOp ops) (placed_op_means lines s n o)
+  op_sorted lines ops s n o h = on_line (line_at lines o.at) o.value
+    where
+      on_line : (line : ℕ) (o : OpTree) → Has (OneOp ops) (op_means lines line s n o)
+      on_line line (Operates name ps ls b) = unless (OneOp ops) (n == most limits.Ops) _ _ (λ few.
+          next (Named s Taken) (OneOp ops) (declared s name Taken) _ (named s name Taken) (λ t k.
+          joins (OneOp ops) (parameters_mean t ps) _ _ (
+          next (LocalsRead t) (OneOp ops) (parameters_mean t ps >>= λ p. locals_mean p ls) _ (locals_read t ps ls (k.there d tt h.there) (k.keeps.locals ∙ h.locals)) (λ l read.
+          next (Body l) (OneOp ops) (statements_mean lines l false b) _ (body_sorted lines l b read.there) (λ body f.
+          let same : length l.labels ≡ length s.labels = ap length (read.headed.labels ∙ k.keeps.labels) in
+          let here : Numbered (length s.labels) (length body.1.labels) (block_labels body.0) = subst (λ m. Numbered m (length body.1.labels) (block_labels body.0)) same f.numbered in
+          let o : Op = record { name = length s.names.names; locals = l.locals; body = body.0; line = line } in
+          record {
+            is = λ w. record { parameters = read.headed.parameters; body = f.sorted w };
+            state = record { there = f.there; locals = refl; numbered = subst (Numbered 0 (length body.1.labels)) (sym (labels_push ops o)) (joined h.numbered here) };
+          })))))

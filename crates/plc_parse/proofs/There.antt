@@ -11,7 +11,7 @@ use Rattle.plc_lang.specs.declared.syntax.Field.{Field}
 use Rattle.plc_lang.specs.declared.syntax.Func.{Func}
 use Rattle.plc_lang.specs.declared.syntax.Ghost.{Ghost}
 use Rattle.plc_lang.specs.declared.syntax.File.{File}
-use Rattle.plc_syntax.specs.Trees.{Text, FieldTree, PointerField as PointerFieldTree, DataField as DataFieldTree, FunctionTree, Declares, GhostTree, Auxiliary as AuxiliaryTree, OneOf, OfThreads}
+use Rattle.plc_syntax.specs.Trees.{Text, Placed, FieldTree, PointerField as PointerFieldTree, DataField as DataFieldTree, FunctionTree, Declares, GhostTree, Auxiliary as AuxiliaryTree, OneOf, OfThreads}
 use Rattle.plc_scope.specs.declared.fault.ParseFault.{ParseFault}
 use Rattle.plc_scope.specs.declared.scope.Scope.{Scope}
 use Rattle.plc_scope.specs.declared.binding.Binding.{Binding}
@@ -69,23 +69,23 @@ lists_of file = record { fields = file.fields; shared = file.shared; funcs = fil
 -- ---- declarations, each of which stands in the lists at its number
 
 -- no local and no label was declared, and what is there stays, where the lists have what was declared
-pub record OneThere {Y : Type 0} (There : Lists → ℕ → Y → Type 0) (s : Scope) (n : ℕ) (r : Y × Scope × ℕ) : Type 0 where
+pub record OneThere {Y : Type 0} (There : Lists → ℕ → Y → Type 0) (s : Scope) (n : ℕ) (r : Y × Scope) : Type 0 where
   pub keeps : KeepsLists s r.1
   pub there : (d : Lists) → There d n r.0 → AllThere d s → AllThere d r.1
 
-pub record EachThere {Y : Type 0} (There : Lists → ℕ → Y → Type 0) (s : Scope) (n : ℕ) (r : List Y × Scope × ℕ) : Type 0 where
+pub record EachThere {Y : Type 0} (There : Lists → ℕ → Y → Type 0) (s : Scope) (n : ℕ) (r : List Y × Scope) : Type 0 where
   pub keeps : KeepsLists s r.1
   pub there : (d : Lists) → ((k : ℕ) (y : Y) → slice_get r.0 k ≡ Some y → There d (n + k) y) → AllThere d s → AllThere d r.1
 
 pub kept_then : {s t u : Scope} → KeepsLists s t → KeepsLists t u → KeepsLists s u
 kept_then k l = record { locals = l.locals ∙ k.locals; labels = l.labels ∙ k.labels }
 
-module _ {X Y : Type 0} (means : Scope → ℕ → ℕ → X → Result (Y × Scope × ℕ) ParseFault) (There : Lists → ℕ → Y → Type 0)
-    (one : (s : Scope) (n at : ℕ) (x : X) → Has (OneThere There s n) (means s n at x)) where
-  pub each_there : (s : Scope) (n at : ℕ) (xs : List X) → Has (EachThere There s n) (listed means s n at xs)
-  each_there s n at [] = record { keeps = record { locals = refl; labels = refl }; there = λ d there h. h }
-  each_there s n at (x ∷ xs) = next (OneThere There s n) (EachThere There s n) (means s n at x) _ (one s n at x) (λ first f.
-      next (EachThere There first.1 (n + 1)) (EachThere There s n) (listed means first.1 (n + 1) first.2 xs) _ (each_there first.1 (n + 1) first.2 xs) (λ others g.
+module _ {X Y : Type 0} (means : Scope → ℕ → X → Result (Y × Scope) ParseFault) (There : Lists → ℕ → Y → Type 0)
+    (one : (s : Scope) (n : ℕ) (x : X) → Has (OneThere There s n) (means s n x)) where
+  pub each_there : (s : Scope) (n : ℕ) (xs : List X) → Has (EachThere There s n) (listed means s n xs)
+  each_there s n [] = record { keeps = record { locals = refl; labels = refl }; there = λ d there h. h }
+  each_there s n (x ∷ xs) = next (OneThere There s n) (EachThere There s n) (means s n x) _ (one s n x) (λ first f.
+      next (EachThere There first.1 (n + 1)) (EachThere There s n) (listed means first.1 (n + 1) xs) _ (each_there first.1 (n + 1) xs) (λ others g.
       let here : n + 0 ≡ n = omega arith in
       record {
         keeps = kept_then f.keeps g.keeps;
@@ -99,37 +99,37 @@ pub record Named (s : Scope) (b : Binding) (t : Scope) : Type 0 where
   pub keeps : KeepsLists s t
   pub there : (d : Lists) → IsThere d b → AllThere d s → AllThere d t
 
-pub named : (s : Scope) (name : Text) (at : ℕ) (b : Binding) → Has (Named s b) (declared s name at b)
-named s name at b = new (place_of name s.names.names)
+pub named : (s : Scope) (name : Placed Text) (b : Binding) → Has (Named s b) (declared s name b)
+named s name b = new (place_of name.value s.names.names)
   where
-    new : (o : Option ℕ) → Has (Named s b) (if_new o at (with_name s name b))
+    new : (o : Option ℕ) → Has (Named s b) (if_new o name.at (with_name s name.value b))
     new None = record { keeps = record { locals = refl; labels = refl }; there = λ d is h. All-push (IsThere d) s.bindings b h is }
     new (Some i) = tt
 
-pub one_there : {Y : Type 0} (There : Lists → ℕ → Y → Type 0) (n : ℕ) (what : What1) (s : Scope) (name : Text) (at : ℕ) (b : Binding) (y : Y) (after : ℕ)
-    → ((d : Lists) → There d n y → IsThere d b) → Has (OneThere There s n) (within_limit n what (declared s name at b >>= λ t. Ok (y, t, after)))
-one_there There n what s name at b y after is = unless (OneThere There s n) (n == most what) _ _ (λ few.
-    next (Named s b) (OneThere There s n) (declared s name at b) _ (named s name at b) (λ t f. record { keeps = f.keeps; there = λ d there h. f.there d (is d there) h }))
+pub one_there : {Y : Type 0} (There : Lists → ℕ → Y → Type 0) (n : ℕ) (what : What1) (s : Scope) (name : Placed Text) (b : Binding) (y : Y)
+    → ((d : Lists) → There d n y → IsThere d b) → Has (OneThere There s n) (within_limit n what (declared s name b >>= λ t. Ok (y, t)))
+one_there There n what s name b y is = unless (OneThere There s n) (n == most what) _ _ (λ few.
+    next (Named s b) (OneThere There s n) (declared s name b) _ (named s name b) (λ t f. record { keeps = f.keeps; there = λ d there h. f.there d (is d there) h }))
 
 abbrev pub FieldThere : Lists → ℕ → Field → Type 0
 FieldThere d n x = slice_get d.fields n ≡ Some x
 
-pub field_there : (s : Scope) (n at : ℕ) (f : FieldTree) → Has (OneThere FieldThere s n) (field_means s n at f)
-field_there s n at (PointerFieldTree name) = one_there FieldThere n limits.Fields s name (at + 1) _ _ _ (λ d there. (_, there, refl))
-field_there s n at (DataFieldTree name) = one_there FieldThere n limits.Fields s name (at + 1) _ _ _ (λ d there. (_, there, refl))
+pub field_there : (s : Scope) (n : ℕ) (f : FieldTree) → Has (OneThere FieldThere s n) (field_means s n f)
+field_there s n (PointerFieldTree name) = one_there FieldThere n limits.Fields s name _ _ (λ d there. (_, there, refl))
+field_there s n (DataFieldTree name) = one_there FieldThere n limits.Fields s name _ _ (λ d there. (_, there, refl))
 
 abbrev pub SharedThere : Lists → ℕ → ℕ → Type 0
 SharedThere d n name = slice_get d.shared n ≡ Some name
 
-pub shared_there : (s : Scope) (n at : ℕ) (name : Text) → Has (OneThere SharedThere s n) (shared_means s n at name)
-shared_there s n at name = one_there SharedThere n limits.Shared s name (at + 1) _ _ _ (λ d there. slice_get_within d.shared n _ there)
+pub shared_there : (s : Scope) (n : ℕ) (name : Placed Text) → Has (OneThere SharedThere s n) (shared_means s n name)
+shared_there s n name = one_there SharedThere n limits.Shared s name _ _ (λ d there. slice_get_within d.shared n _ there)
 
 -- `retire` stands before those that are declared
 abbrev pub FunctionThere : Lists → ℕ → Func → Type 0
 FunctionThere d n x = slice_get d.funcs (n + 1) ≡ Some x
 
-pub function_there : (s : Scope) (n at : ℕ) (f : FunctionTree) → Has (OneThere FunctionThere s n) (function_means s n at f)
-function_there s n at (Declares name p) = one_there FunctionThere n limits.Calls s name (at + 1) _ _ _ (λ d there. (_, there, refl))
+pub function_there : (s : Scope) (n : ℕ) (f : FunctionTree) → Has (OneThere FunctionThere s n) (function_means s n f)
+function_there s n (Declares name p) = one_there FunctionThere n limits.Calls s name _ _ (λ d there. (_, there, refl))
 
 pub after_retire : (fs : List Func) (k : ℕ) (f : Func) → slice_get fs k ≡ Some f → slice_get (retire ∷ fs) (0 + k + 1) ≡ Some f
 after_retire fs k f e = let same : 0 + k + 1 ≡ suc k = omega arith in ap (slice_get (retire ∷ fs)) same ∙ e
@@ -144,27 +144,27 @@ pub record ValueThere (s : Scope) (g k : ℕ) (r : ℕ × Scope) : Type 0 where
   pub keeps : KeepsLists s r.1
   pub there : (d : Lists) (h : Ghost) → GhostThere d g h → k < length h.values → AllThere d s → AllThere d r.1
 
-pub value_there : (s : Scope) (g k at : ℕ) (name : Text) → Has (ValueThere s g k) (value_means s g k at name)
-value_there s g k at name = next (Named s (Value g k)) (ValueThere s g k) (declared s name at (Value g k)) _ (named s name at (Value g k)) (λ t f.
+pub value_there : (s : Scope) (g k : ℕ) (name : Placed Text) → Has (ValueThere s g k) (value_means s g k name)
+value_there s g k name = next (Named s (Value g k)) (ValueThere s g k) (declared s name (Value g k)) _ (named s name (Value g k)) (λ t f.
     unless (ValueThere s g k) (k == most limits.Values) _ _ (λ few. record { keeps = f.keeps; there = λ d h there less before. f.there d (h, there, less) before }))
 
 -- the values after the first k
-pub record ValuesThere (s : Scope) (g k : ℕ) (r : List ℕ × Scope × ℕ) : Type 0 where
+pub record ValuesThere (s : Scope) (g k : ℕ) (r : List ℕ × Scope) : Type 0 where
   pub keeps : KeepsLists s r.1
   pub there : (d : Lists) (h : Ghost) → GhostThere d g h → k + length r.0 ≤ length h.values → AllThere d s → AllThere d r.1
 
-pub values_there : (s : Scope) (g k at : ℕ) (names : List Text) → Has (ValuesThere s g k) (values_mean s g k at names)
-values_there s g k at [] = record { keeps = record { locals = refl; labels = refl }; there = λ d h there le before. before }
-values_there s g k at (name ∷ names) = next (ValueThere s g k) (ValuesThere s g k) (value_means s g k (at + 1) name) _ (value_there s g k (at + 1) name) (λ first f.
-    next (ValuesThere first.1 g (k + 1)) (ValuesThere s g k) (values_mean first.1 g (k + 1) (at + 2) names) _ (values_there first.1 g (k + 1) (at + 2) names) (λ others m.
+pub values_there : (s : Scope) (g k : ℕ) (names : List (Placed Text)) → Has (ValuesThere s g k) (values_mean s g k names)
+values_there s g k [] = record { keeps = record { locals = refl; labels = refl }; there = λ d h there le before. before }
+values_there s g k (name ∷ names) = next (ValueThere s g k) (ValuesThere s g k) (value_means s g k name) _ (value_there s g k name) (λ first f.
+    next (ValuesThere first.1 g (k + 1)) (ValuesThere s g k) (values_mean first.1 g (k + 1) names) _ (values_there first.1 g (k + 1) names) (λ others m.
     record { keeps = kept_then f.keeps m.keeps; there = λ d h there le before. m.there d h there (omega (arith, le)) (f.there d h there (omega (arith, le)) before) }))
 
-pub ghost_there : (s : Scope) (n at : ℕ) (g : GhostTree) → Has (OneThere GhostThere s n) (ghost_means s n at g)
-ghost_there s n at (AuxiliaryTree name OfThreads) = one_there GhostThere n limits.Ghosts s name (at + 1) _ _ _ (λ d there. (_, there, refl))
-ghost_there s n at (AuxiliaryTree name (OneOf v vs)) = unless (OneThere GhostThere s n) (n == most limits.Ghosts) _ _ (λ few.
-    next (Named s (Auxiliary n false)) (OneThere GhostThere s n) (declared s name (at + 1) (Auxiliary n false)) _ (named s name (at + 1) (Auxiliary n false)) (λ t f.
-    next (ValueThere t n 0) (OneThere GhostThere s n) (value_means t n 0 (at + 3) v) _ (value_there t n 0 (at + 3) v) (λ first k.
-    next (ValuesThere first.1 n 1) (OneThere GhostThere s n) (values_mean first.1 n 1 (at + 4) vs) _ (values_there first.1 n 1 (at + 4) vs) (λ others m.
+pub ghost_there : (s : Scope) (n : ℕ) (g : GhostTree) → Has (OneThere GhostThere s n) (ghost_means s n g)
+ghost_there s n (AuxiliaryTree name OfThreads) = one_there GhostThere n limits.Ghosts s name _ _ (λ d there. (_, there, refl))
+ghost_there s n (AuxiliaryTree name (OneOf v vs)) = unless (OneThere GhostThere s n) (n == most limits.Ghosts) _ _ (λ few.
+    next (Named s (Auxiliary n false)) (OneThere GhostThere s n) (declared s name (Auxiliary n false)) _ (named s name (Auxiliary n false)) (λ t f.
+    next (ValueThere t n 0) (OneThere GhostThere s n) (value_means t n 0 v) _ (value_there t n 0 v) (λ first k.
+    next (ValuesThere first.1 n 1) (OneThere GhostThere s n) (values_mean first.1 n 1 vs) _ (values_there first.1 n 1 vs) (λ others m.
     record {
       keeps = kept_then f.keeps (kept_then k.keeps m.keeps);
       there = λ d there before.

@@ -10,8 +10,7 @@ use Rattle.plc_lang.specs.WellSorted.{is_initial, FileIsWellSorted}
 use Rattle.plc_auto.specs.declared.observer.Observer.{Observer}
 use Rattle.plc_auto.specs.declared.observer.Observer.TheVariants.{Plain, Hazard, Epoch}
 use Rattle.plc_logic.specs.Fit.{OutlineFits}
-use Rattle.plc_syntax.specs.Trees.{InitialTree, WatchTree, UseHazard, UseEpoch, FileTree}
-use Rattle.plc_syntax.specs.Sizes.{initial_size}
+use Rattle.plc_syntax.specs.Trees.{Placed, InitialTree, WatchTree, UseHazard, UseEpoch, FileTree}
 use Rattle.plc_scope.specs.declared.fault.ParseFault.{ParseFault}
 use Rattle.plc_scope.specs.declared.scope.Scope.{Scope}
 use Rattle.plc_scope.specs.declared.binding.Binding.TheVariants.{Taken}
@@ -22,7 +21,7 @@ use Rattle.plc_outparse.proofs.Fits.{at_start}
 use Rattle.plc_parse.specs.declared.unit.Unit.{Unit as FileUnit}
 use Rattle.plc_parse.specs.Growth.{KeepsLists}
 use Rattle.plc_parse.specs.Fit.{WatchesDeclared}
-use Rattle.plc_parse.specs.Meaning.{field_means, shared_means, function_means, ghost_means, listed, initials_mean, watch_means, init_means, op_means, outlined_means, file_means, file_from, retire}
+use Rattle.plc_parse.specs.Meaning.{field_means, shared_means, function_means, ghost_means, listed, initials_mean, watch_means, init_means, placed_op_means, outlined_means, file_means, file_from, retire}
 use Rattle.plc_parse.proofs.Holds.{EachOn, each_on}
 use Rattle.plc_parse.proofs.There.{Lists, AllThere, EachThere, each_there, kept_then, Named, named, FieldThere, field_there, SharedThere, shared_there, FunctionThere, function_there, after_retire, GhostThere, ghost_there, first_there}
 use Rattle.plc_parse.proofs.Numbering.{Numbered, nothing, numbered_range}
@@ -32,20 +31,17 @@ use Rattle.plc_parse.proofs.Outlined.{outlined_fits}
 
 -- ---- the observer and `init`
 
--- an observer's functions are there; and the place after it
+-- an observer's functions are there
 abbrev IsWatched : Lists → Observer → Type 0
 IsWatched d Plain = Unit {0}
 IsWatched d (Hazard f) = IsProtecting d f
 IsWatched d (Epoch e l) = IsWithoutPointer d e × IsWithoutPointer d l
 
-abbrev Watched : Lists → Observer × ℕ → Type 0
-Watched d o = IsWatched d o.0
-
-watch_there : (d : Lists) (s : Scope) (at : ℕ) (w : Option WatchTree) → AllThere d s → Has (Watched d) (watch_means s at w)
-watch_there d s at None h = tt
-watch_there d s at (Some (UseHazard f)) h = next (IsProtecting d) (Watched d) (protecting_at s f (at + 3)) _ (protecting_there d s h f (at + 3)) (λ g a. a)
-watch_there d s at (Some (UseEpoch e l)) h = next (IsWithoutPointer d) (Watched d) (without_pointer_at s e (at + 3)) _ (without_pointer_there d s h e (at + 3)) (λ f a.
-    next (IsWithoutPointer d) (Watched d) (without_pointer_at s l (at + 5)) _ (without_pointer_there d s h l (at + 5)) (λ g b. (a, b)))
+watch_there : (d : Lists) (s : Scope) (w : Option WatchTree) → AllThere d s → Has (IsWatched d) (watch_means s w)
+watch_there d s None h = tt
+watch_there d s (Some (UseHazard f)) h = next (IsProtecting d) (IsWatched d) (protecting_at s f) _ (protecting_there d s h f) (λ g a. a)
+watch_there d s (Some (UseEpoch e l)) h = next (IsWithoutPointer d) (IsWatched d) (without_pointer_at s e) _ (without_pointer_there d s h e) (λ f a.
+    next (IsWithoutPointer d) (IsWatched d) (without_pointer_at s l) _ (without_pointer_there d s h l) (λ g b. (a, b)))
 
 -- whatever else is declared
 declared_in : (file : File) (d : Lists) (o : Observer) → file.funcs ≡ d.funcs → IsWatched d o → WatchesDeclared file o
@@ -53,15 +49,15 @@ declared_in file d Plain e h = tt
 declared_in file d (Hazard f) e h = (h.0, ap (λ fs. slice_get fs f.0) e ∙ h.1, h.2)
 declared_in file d (Epoch f g) e h = ((h.0.0, ap (λ fs. slice_get fs f.0) e ∙ h.0.1, h.0.2), (h.1.0, ap (λ fs. slice_get fs g.0) e ∙ h.1.1, h.1.2))
 
-abbrev Starts : Lists → List Primitive × ℕ → Type 0
-Starts d b = (w : With d) → Step w.0 is_initial false b
+abbrev Starts : Lists → List Primitive → Type 0
+Starts d ks = (w : With d) → Step w.0 is_initial false ks
 
-starts_sorted : (d : Lists) (s : Scope) (at : ℕ) (starts : Option (List InitialTree)) → AllThere d s → Has (Starts d) (init_means s at starts)
-starts_sorted d s at None h = λ w. record { each = tt; one_new = omega arith }
-starts_sorted d s at (Some is) h = at_once (initials_mean s (at + 2) is) (λ w. forms_sorted w.0 is_initial (initial_means s) initial_size (initial_sorted w.0 s (there_with d s w h)) 0 false (at + 2) is)
+starts_sorted : (d : Lists) (s : Scope) (starts : Option (List (Placed InitialTree))) → AllThere d s → Has (Starts d) (init_means s starts)
+starts_sorted d s None h = λ w. record { each = tt; one_new = omega arith }
+starts_sorted d s (Some is) h = at_once (initials_mean s is) (λ w. forms_sorted w.0 is_initial (initial_means s) (initial_sorted w.0 s (there_with d s w h)) 0 false is)
   where
-    at_once : (r : Result (List Primitive × ℕ) ParseFault) → ((w : With d) → Has (Step w.0 is_initial false) r) → Has (Starts d) (r >>= λ b. Ok (b.0, b.1 + 1))
-    at_once (Ok b) k = λ w. record { each = (k w).each; one_new = (k w).one_new }
+    at_once : (r : Result (List Primitive) ParseFault) → ((w : With d) → Has (Step w.0 is_initial false) r) → Has (Starts d) r
+    at_once (Ok ks) k = k
     at_once (Err e) k = tt
 
 -- ---- the file
@@ -75,33 +71,33 @@ pub record IsWhole (u : FileUnit) : Type 0 where
 unit_whole : (lines : List ℕ) (f : FileTree) → Has IsWhole (file_means lines f)
 unfolding file_means
 unit_whole lines f =
-    next (Named first_scope Taken) IsWhole (declared first_scope f.name 1 Taken) _ (named first_scope f.name 1 Taken) (λ s first.
-    next (EachThere FieldThere s 0) IsWhole (listed field_means s 0 3 f.fields) _ (each_there field_means FieldThere field_there s 0 3 f.fields) (λ fields a.
-    next (EachThere SharedThere fields.1 0) IsWhole (listed shared_means fields.1 0 (fields.2 + 1) f.pointers) _ (each_there shared_means SharedThere shared_there fields.1 0 (fields.2 + 1) f.pointers) (λ pointers b.
-    next (EachThere FunctionThere pointers.1 0) IsWhole (listed function_means pointers.1 0 pointers.2 f.functions) _ (each_there function_means FunctionThere function_there pointers.1 0 pointers.2 f.functions) (λ functions c.
+    next (Named first_scope Taken) IsWhole (declared first_scope f.name Taken) _ (named first_scope f.name Taken) (λ s first.
+    next (EachThere FieldThere s 0) IsWhole (listed field_means s 0 f.fields) _ (each_there field_means FieldThere field_there s 0 f.fields) (λ fields a.
+    next (EachThere SharedThere fields.1 0) IsWhole (listed shared_means fields.1 0 f.pointers) _ (each_there shared_means SharedThere shared_there fields.1 0 f.pointers) (λ pointers b.
+    next (EachThere FunctionThere pointers.1 0) IsWhole (listed function_means pointers.1 0 f.functions) _ (each_there function_means FunctionThere function_there pointers.1 0 f.functions) (λ functions c.
     let lists : List Ghost → Lists = λ gs. record { fields = fields.0; shared = pointers.0; funcs = retire ∷ functions.0; ghosts = gs } in
     let there : (gs : List Ghost) → AllThere (lists gs) functions.1 = λ gs.
     c.there (lists gs) (after_retire functions.0) (b.there (lists gs) (at_start pointers.0) (a.there (lists gs) (at_start fields.0) (first.there (lists gs) tt (first_there (lists gs) refl)))) in
-    next (Watched (lists [])) IsWhole (watch_means functions.1 functions.2 f.watched) _ (watch_there (lists []) functions.1 functions.2 f.watched (there [])) (λ observer watched.
-    next (EachThere GhostThere functions.1 0) IsWhole (listed ghost_means functions.1 0 observer.1 f.ghosts) _ (each_there ghost_means GhostThere ghost_there functions.1 0 observer.1 f.ghosts) (λ ghosts g.
+    next (IsWatched (lists [])) IsWhole (watch_means functions.1 f.watched) _ (watch_there (lists []) functions.1 f.watched (there [])) (λ observer watched.
+    next (EachThere GhostThere functions.1 0) IsWhole (listed ghost_means functions.1 0 f.ghosts) _ (each_there ghost_means GhostThere ghost_there functions.1 0 f.ghosts) (λ ghosts g.
     let d : Lists = lists ghosts.0 in
     let all : AllThere d ghosts.1 = g.there d (at_start ghosts.0) (there ghosts.0) in
     let kept : KeepsLists first_scope ghosts.1 = kept_then first.keeps (kept_then a.keeps (kept_then b.keeps (kept_then c.keeps g.keeps))) in
     let none : Numbered 0 (length ghosts.1.labels) [] = rw kept.labels nothing in
-    next (Starts d) IsWhole (init_means ghosts.1 ghosts.2 f.starts) _ (starts_sorted d ghosts.1 ghosts.2 f.starts all) (λ starts i.
-    next (EachOn (OpSorted d) (AfterOps d) []) IsWhole (listed (op_means lines) ghosts.1 0 starts.1 f.ops) _
-    (each_on (op_means lines) (OpSorted d) (AfterOps d) (op_sorted d lines) [] ghosts.1 0 starts.1 f.ops (record { there = all; locals = kept.locals; numbered = none })) (λ ops o.
-    let file : File = file_from fields.0 pointers.0 functions.0 ghosts.0 starts.0 ops.0 ops.1 in
+    next (Starts d) IsWhole (init_means ghosts.1 f.starts) _ (starts_sorted d ghosts.1 f.starts all) (λ starts i.
+    next (EachOn (OpSorted d) (AfterOps d) []) IsWhole (listed (placed_op_means lines) ghosts.1 0 f.ops) _
+    (each_on (placed_op_means lines) (OpSorted d) (AfterOps d) (op_sorted d lines) [] ghosts.1 0 f.ops (record { there = all; locals = kept.locals; numbered = none })) (λ ops o.
+    let file : File = file_from fields.0 pointers.0 functions.0 ghosts.0 starts ops.0 ops.1 in
     let w : With d = (file, refl) in
-    next (OutlineFits file) IsWhole (outlined_means ops.1 ops.0 ops.2 f.outlined) _ (outlined_fits ops.1 file refl o.state.there ops.2 f.outlined) (λ outline fits.
+    next (OutlineFits file) IsWhole (outlined_means ops.1 ops.0 f.outlined) _ (outlined_fits ops.1 file refl o.state.there f.outlined) (λ outline fits.
     record {
       sorted = record {
         retires = (retire, refl, refl);
-        init = record { each = each_sorted file is_initial starts.0 (i w).each; one_new = omega (arith, (i w).one_new); initial = none_other file is_initial starts.0 (i w).each };
+        init = record { each = each_sorted file is_initial starts (i w).each; one_new = omega (arith, (i w).one_new); initial = none_other file is_initial starts (i w).each };
         each_op = λ k x e. o.each k x e w;
         labels = numbered_range (length ops.1.labels) (concat (labels_by_op ops.0)) o.state.numbered;
       };
-      watched = declared_in file (lists []) observer.0 refl watched;
+      watched = declared_in file (lists []) observer refl watched;
       outline = fits;
     })))))))))
 

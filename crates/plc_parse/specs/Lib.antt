@@ -7,5 +7,4 @@ pub mod Marks
 pub mod Growth
 pub mod Kinds
 pub mod Parts
-pub mod Sizes
 pub mod Views

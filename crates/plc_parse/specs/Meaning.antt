@@ -1,6 +1,5 @@
--- What the trees of a file mean. A tree stands at a place, the number of tokens before it; what it means comes with
--- the place after it.
--- Each name is looked up where it stands, from left to right, so the first fault is the one at the least token.
+-- What the trees of a file mean. Names are looked up from left to right, and a fault is told at the name, word or
+-- number that is at fault, so the first fault is the one at the least token.
 use Rattle.std.specs.Prelude.{◌&&◌, ◌||◌, ◌+◌, ℕ, Bool, true, false, if◌then◌else◌, List, [], ◌∷◌, length, get_or}
 use Rattle.std.specs.Prelude.{Option, Some, None, Result, Ok, Err}
 use Rattle.plc_base.specs.declared.limits.What1.TheVariants as limits
@@ -16,15 +15,14 @@ use Rattle.plc_lang.specs.Statements.{Statement, One, Atomic, Call, If, Choose, 
 use Rattle.plc_lang.specs.Statements.{Statements, Empty, Then, Blocks, NoBlock, And}
 use Rattle.plc_auto.specs.declared.observer.Observer.{Observer}
 use Rattle.plc_auto.specs.declared.observer.Observer.TheVariants.{Plain, Hazard, Epoch}
-use Rattle.plc_syntax.specs.Trees.{Text, FieldTree, PointerField as PointerFieldTree, DataField as DataFieldTree}
+use Rattle.plc_syntax.specs.Trees.{Text, Placed, FieldTree, PointerField as PointerFieldTree}
+use Rattle.plc_syntax.specs.Trees.{DataField as DataFieldTree}
 use Rattle.plc_syntax.specs.Trees.{FunctionTree, Declares, WatchTree, UseHazard, UseEpoch, OneOf, OfThreads, GhostTree}
 use Rattle.plc_syntax.specs.Trees.{Auxiliary as AuxiliaryTree, InitialTree, PrimitiveTree, StatementTree}
 use Rattle.plc_syntax.specs.Trees.{PrimitiveStatement, AtomicStatement, CallStatement, IfStatement, ChooseStatement}
 use Rattle.plc_syntax.specs.Trees.{LoopStatement, BreakStatement, ReturnStatement, LabelStatement, BlockTree}
 use Rattle.plc_syntax.specs.Trees.{NoStatement, Then as ThenStatement, ElseTree, NoElse, ElseBlock, OrTree, NoOr}
 use Rattle.plc_syntax.specs.Trees.{OrBlock, OpTree, Operates, OutlineTree, FileTree}
-use Rattle.plc_syntax.specs.Sizes.{initial_size, primitive_size, condition_size, call_size, during_size, function_size}
-use Rattle.plc_syntax.specs.Sizes.{watch_size}
 use Rattle.plc_scope.specs.declared.fault.ParseFault.{ParseFault}
 use Rattle.plc_scope.specs.declared.fault.ParseFault.TheVariants as faults
 use Rattle.plc_scope.specs.declared.scope.Scope.{Scope}
@@ -40,8 +38,8 @@ use Rattle.plc_parse.specs.declared.unit.Unit.{Unit as FileUnit}
 
 -- ---- atomic blocks and `init`
 
--- one primitive more, with the number of those before and whether one of them allocates: at most 64, and one `new`,
--- whose place is the word
+-- one primitive more at a place, with the number of those before and whether one of them allocates: at most 64, and
+-- one `new`, whose place is the word
 abbrev pub counted : ℕ → Bool → ℕ → Result (Option Primitive) ParseFault → Result (Option Primitive) ParseFault
 counted n has_new at (Ok None) = Ok None
 counted n has_new at (Ok (Some k)) =
@@ -64,22 +62,22 @@ abbrev pub before : Option Primitive → List Primitive → List Primitive
 before None ks = ks
 before (Some k) ks = k ∷ ks
 
--- forms in order, each with its semicolon; and the place after the last
-abbrev pub forms_mean : {X : Type 0} → (ℕ → X → Result (Option Primitive) ParseFault) → (X → ℕ) → ℕ → Bool → ℕ → List X
-    → Result (List Primitive × ℕ) ParseFault
-forms_mean means size n has_new at [] = Ok ([], at)
-forms_mean means size n has_new at (x ∷ xs) = do
-  k ← counted n has_new at (means at x)
-  others ← forms_mean means size (n + count_of k) (has_new || allocates k) (at + size x + 1) xs
-  Ok (before k others.0, others.1)
+-- forms in order
+abbrev pub forms_mean : {X : Type 0} → (X → Result (Option Primitive) ParseFault) → ℕ → Bool → List (Placed X)
+    → Result (List Primitive) ParseFault
+forms_mean means n has_new [] = Ok []
+forms_mean means n has_new (x ∷ xs) = do
+  k ← counted n has_new x.at (means x.value)
+  others ← forms_mean means (n + count_of k) (has_new || allocates k) xs
+  Ok (before k others)
 
 -- the primitives of an atomic block; `skip` is none
-abbrev pub atomic_means : Scope → ℕ → List PrimitiveTree → Result (List Primitive × ℕ) ParseFault
-atomic_means s at ps = forms_mean (primitive_means s) primitive_size 0 false at ps
+abbrev pub atomic_means : Scope → List (Placed PrimitiveTree) → Result (List Primitive) ParseFault
+atomic_means s ps = forms_mean (primitive_means s) 0 false ps
 
 -- the primitives of `init`
-abbrev pub initials_mean : Scope → ℕ → List InitialTree → Result (List Primitive × ℕ) ParseFault
-initials_mean s at is = forms_mean (initial_means s) initial_size 0 false at is
+abbrev pub initials_mean : Scope → List (Placed InitialTree) → Result (List Primitive) ParseFault
+initials_mean s is = forms_mean (initial_means s) 0 false is
 
 -- ---- statements; the line of each is that of its first token
 
@@ -92,195 +90,180 @@ abbrev pub one_or_skip : Option Primitive → Statement
 one_or_skip None = Skip
 one_or_skip (Some k) = One k
 
--- a label after the word before it has the number of those before
-abbrev pub label_means : Scope → ℕ → Text → Result (ℕ × Scope) ParseFault
-label_means s at n = within_limit (length s.labels) limits.Labels (do
-  t ← declared_label s n (at + 1)
+-- a label has the number of those before
+abbrev pub label_means : Scope → Placed Text → Result (ℕ × Scope) ParseFault
+label_means s n = within_limit (length s.labels) limits.Labels (do
+  t ← declared_label s n
   Ok (length s.labels, t))
 
--- the label of a call, after "during"
-abbrev pub during_means : Scope → ℕ → Option Text → Result (Option ℕ × Scope) ParseFault
-during_means s at None = Ok (None, s)
-during_means s at (Some n) = do
-  l ← label_means s at n
+-- the label of a call
+abbrev pub during_means : Scope → Option (Placed Text) → Result (Option ℕ × Scope) ParseFault
+during_means s None = Ok (None, s)
+during_means s (Some n) = do
+  l ← label_means s n
   Ok (Some l.0, l.1)
 
--- a statement within a loop or not, and blocks of statements; labels stay declared after them
+-- a statement at its place, within a loop or not, and blocks of statements; labels stay declared after them
 abbrev mutual
-  pub statement_means : List ℕ → Scope → Bool → ℕ → StatementTree → Result (Statement × Scope × ℕ) ParseFault
+  pub statement_means : List ℕ → Scope → Bool → ℕ → StatementTree → Result (Statement × Scope) ParseFault
   statement_means lines s in_loop at (PrimitiveStatement p) = do
-    k ← primitive_means s at p
-    Ok (one_or_skip k, s, at + primitive_size p + 1)
+    k ← primitive_means s p
+    Ok (one_or_skip k, s)
   statement_means lines s in_loop at (AtomicStatement ps) = do
-    b ← atomic_means s (at + 2) ps
-    Ok (Atomic b.0, s, b.1 + 1)
+    ks ← atomic_means s ps
+    Ok (Atomic ks, s)
   statement_means lines s in_loop at (CallStatement f a d) = do
-    c ← call_means s at f a
-    l ← during_means s (at + call_size a) d
-    Ok (Call c.0 c.1 c.2 l.0, l.1, at + call_size a + during_size d + 1)
+    c ← call_means s f a
+    l ← during_means s d
+    Ok (Call c.0 c.1 c.2 l.0, l.1)
   statement_means lines s in_loop at (IfStatement c b e) = do
-    k ← condition_means s (at + 2) c
-    x ← statements_mean lines s in_loop (at + 2 + condition_size c + 2) b
-    y ← else_means lines x.1 in_loop (x.2 + 1) e
-    Ok (If k x.0 y.0, y.1, y.2)
+    k ← condition_means s c
+    x ← statements_mean lines s in_loop b
+    y ← else_means lines x.1 in_loop e
+    Ok (If k x.0 y.0, y.1)
   statement_means lines s in_loop at (ChooseStatement a b os) = do
-    x ← statements_mean lines s in_loop (at + 2) a
-    y ← statements_mean lines x.1 in_loop (x.2 + 3) b
-    z ← or_means lines y.1 in_loop (y.2 + 1) os
-    Ok (Choose (And x.0 (And y.0 z.0)), z.1, z.2)
+    x ← statements_mean lines s in_loop a
+    y ← statements_mean lines x.1 in_loop b
+    z ← or_means lines y.1 in_loop os
+    Ok (Choose (And x.0 (And y.0 z.0)), z.1)
   statement_means lines s in_loop at (LoopStatement b) = do
-    x ← statements_mean lines s true (at + 2) b
-    Ok (Loop x.0, x.1, x.2 + 1)
-  statement_means lines s true at BreakStatement = Ok (Break, s, at + 2)
+    x ← statements_mean lines s true b
+    Ok (Loop x.0, x.1)
+  statement_means lines s true at BreakStatement = Ok (Break, s)
   statement_means lines s false at BreakStatement = Err (faults.Undeclared at)
-  statement_means lines s in_loop at ReturnStatement = Ok (Return, s, at + 2)
+  statement_means lines s in_loop at ReturnStatement = Ok (Return, s)
   statement_means lines s in_loop at (LabelStatement n) = do
-    l ← label_means s at n
-    Ok (Label l.0, l.1, at + 3)
+    l ← label_means s n
+    Ok (Label l.0, l.1)
 
   -- statements in order
-  pub statements_mean : List ℕ → Scope → Bool → ℕ → BlockTree → Result (Statements × Scope × ℕ) ParseFault
-  statements_mean lines s in_loop at NoStatement = Ok (Empty, s, at)
-  statements_mean lines s in_loop at (ThenStatement st b) = do
+  pub statements_mean : List ℕ → Scope → Bool → BlockTree → Result (Statements × Scope) ParseFault
+  statements_mean lines s in_loop NoStatement = Ok (Empty, s)
+  statements_mean lines s in_loop (ThenStatement at st b) = do
     first ← statement_means lines s in_loop at st
-    others ← statements_mean lines first.1 in_loop first.2 b
-    Ok (Then (line_at lines at) first.0 others.0, others.1, others.2)
+    others ← statements_mean lines first.1 in_loop b
+    Ok (Then (line_at lines at) first.0 others.0, others.1)
 
   -- an absent `else` is an empty block
-  pub else_means : List ℕ → Scope → Bool → ℕ → ElseTree → Result (Statements × Scope × ℕ) ParseFault
-  else_means lines s in_loop at NoElse = Ok (Empty, s, at)
-  else_means lines s in_loop at (ElseBlock b) = do
-    x ← statements_mean lines s in_loop (at + 2) b
-    Ok (x.0, x.1, x.2 + 1)
+  pub else_means : List ℕ → Scope → Bool → ElseTree → Result (Statements × Scope) ParseFault
+  else_means lines s in_loop NoElse = Ok (Empty, s)
+  else_means lines s in_loop (ElseBlock b) = statements_mean lines s in_loop b
 
   -- the blocks of a choice after its second
-  pub or_means : List ℕ → Scope → Bool → ℕ → OrTree → Result (Blocks × Scope × ℕ) ParseFault
-  or_means lines s in_loop at NoOr = Ok (NoBlock, s, at)
-  or_means lines s in_loop at (OrBlock b os) = do
-    x ← statements_mean lines s in_loop (at + 2) b
-    y ← or_means lines x.1 in_loop (x.2 + 1) os
-    Ok (And x.0 y.0, y.1, y.2)
+  pub or_means : List ℕ → Scope → Bool → OrTree → Result (Blocks × Scope) ParseFault
+  or_means lines s in_loop NoOr = Ok (NoBlock, s)
+  or_means lines s in_loop (OrBlock b os) = do
+    x ← statements_mean lines s in_loop b
+    y ← or_means lines x.1 in_loop os
+    Ok (And x.0 y.0, y.1)
 
 -- ---- declarations; n counts those before, and the limit's place is the first token of the declaration past it
 
--- a field of the struct: three tokens, of which the name is the second
-abbrev pub field_means : Scope → ℕ → ℕ → FieldTree → Result (Field × Scope × ℕ) ParseFault
-field_means s n at (PointerFieldTree name) = within_limit n limits.Fields (do
-  t ← declared s name (at + 1) (PointerField (record { 0 = n }))
-  Ok (record { name = length s.names.names; pointer = true }, t, at + 3))
-field_means s n at (DataFieldTree name) = within_limit n limits.Fields (do
-  t ← declared s name (at + 1) (DataField (record { 0 = n }))
-  Ok (record { name = length s.names.names; pointer = false }, t, at + 3))
+-- a field of the struct
+abbrev pub field_means : Scope → ℕ → FieldTree → Result (Field × Scope) ParseFault
+field_means s n (PointerFieldTree name) = within_limit n limits.Fields (do
+  t ← declared s name (PointerField (record { 0 = n }))
+  Ok (record { name = length s.names.names; pointer = true }, t))
+field_means s n (DataFieldTree name) = within_limit n limits.Fields (do
+  t ← declared s name (DataField (record { 0 = n }))
+  Ok (record { name = length s.names.names; pointer = false }, t))
 
--- a shared pointer: three tokens, of which the name is the second
-abbrev pub shared_means : Scope → ℕ → ℕ → Text → Result (ℕ × Scope × ℕ) ParseFault
-shared_means s n at name = within_limit n limits.Shared (do
-  t ← declared s name (at + 1) (Shared n)
-  Ok (length s.names.names, t, at + 3))
+-- a shared pointer
+abbrev pub shared_means : Scope → ℕ → Placed Text → Result (ℕ × Scope) ParseFault
+shared_means s n name = within_limit n limits.Shared (do
+  t ← declared s name (Shared n)
+  Ok (length s.names.names, t))
 
 -- a function, whose number is one more than that of those before, since `retire` is the first of a file
-abbrev pub function_means : Scope → ℕ → ℕ → FunctionTree → Result (Func × Scope × ℕ) ParseFault
-function_means s n at (Declares name takes_pointer) = within_limit n limits.Calls (do
-  t ← declared s name (at + 1) (Function (record { 0 = n + 1 }) takes_pointer)
-  Ok (
-    record { name = length s.names.names; pointer = takes_pointer },
-    t,
-    at + function_size (Declares name takes_pointer),
-  ))
+abbrev pub function_means : Scope → ℕ → FunctionTree → Result (Func × Scope) ParseFault
+function_means s n (Declares name takes_pointer) = within_limit n limits.Calls (do
+  t ← declared s name (Function (record { 0 = n + 1 }) takes_pointer)
+  Ok (record { name = length s.names.names; pointer = takes_pointer }, t))
 
 -- a value of auxiliary field g, with k before it; it is its name alone, so a name that is there is the fault before
 -- the limit
-abbrev pub value_means : Scope → ℕ → ℕ → ℕ → Text → Result (ℕ × Scope) ParseFault
-value_means s g k at name = do
-  t ← declared s name at (Value g k)
+abbrev pub value_means : Scope → ℕ → ℕ → Placed Text → Result (ℕ × Scope) ParseFault
+value_means s g k name = do
+  t ← declared s name (Value g k)
   within_limit k limits.Values (Ok (length s.names.names, t))
 
--- the values after the first, each after its comma; and the place after the last
-abbrev pub values_mean : Scope → ℕ → ℕ → ℕ → List Text → Result (List ℕ × Scope × ℕ) ParseFault
-values_mean s g k at [] = Ok ([], s, at)
-values_mean s g k at (name ∷ names) = do
-  first ← value_means s g k (at + 1) name
-  others ← values_mean first.1 g (k + 1) (at + 2) names
-  Ok (first.0 ∷ others.0, others.1, others.2)
+-- values with k before them
+abbrev pub values_mean : Scope → ℕ → ℕ → List (Placed Text) → Result (List ℕ × Scope) ParseFault
+values_mean s g k [] = Ok ([], s)
+values_mean s g k (name ∷ names) = do
+  first ← value_means s g k name
+  others ← values_mean first.1 g (k + 1) names
+  Ok (first.0 ∷ others.0, others.1)
 
--- an auxiliary field: a thread, or one of its values in braces
-abbrev pub ghost_means : Scope → ℕ → ℕ → GhostTree → Result (Ghost × Scope × ℕ) ParseFault
-ghost_means s n at (AuxiliaryTree name OfThreads) = within_limit n limits.Ghosts (do
-  t ← declared s name (at + 1) (Auxiliary n true)
-  Ok (record { name = length s.names.names; values = [] }, t, at + 4))
-ghost_means s n at (AuxiliaryTree name (OneOf v vs)) = within_limit n limits.Ghosts (do
-  t ← declared s name (at + 1) (Auxiliary n false)
-  first ← value_means t n 0 (at + 3) v
-  others ← values_mean first.1 n 1 (at + 4) vs
-  Ok (record { name = length s.names.names; values = first.0 ∷ others.0 }, others.1, others.2 + 2))
+-- an auxiliary field: a thread, or one of its values
+abbrev pub ghost_means : Scope → ℕ → GhostTree → Result (Ghost × Scope) ParseFault
+ghost_means s n (AuxiliaryTree name OfThreads) = within_limit n limits.Ghosts (do
+  t ← declared s name (Auxiliary n true)
+  Ok (record { name = length s.names.names; values = [] }, t))
+ghost_means s n (AuxiliaryTree name (OneOf v vs)) = within_limit n limits.Ghosts (do
+  t ← declared s name (Auxiliary n false)
+  first ← value_means t n 0 v
+  others ← values_mean first.1 n 1 vs
+  Ok (record { name = length s.names.names; values = first.0 ∷ others.0 }, others.1))
 
--- declarations of one kind in order, each with the number of those before; and the place after the last
-abbrev pub listed : {X Y : Type 0} → (Scope → ℕ → ℕ → X → Result (Y × Scope × ℕ) ParseFault) → Scope → ℕ → ℕ → List X
-    → Result (List Y × Scope × ℕ) ParseFault
-listed means s n at [] = Ok ([], s, at)
-listed means s n at (x ∷ xs) = do
-  first ← means s n at x
-  others ← listed means first.1 (n + 1) first.2 xs
-  Ok (first.0 ∷ others.0, others.1, others.2)
+-- declarations of one kind in order, each with the number of those before
+abbrev pub listed : {X Y : Type 0} → (Scope → ℕ → X → Result (Y × Scope) ParseFault) → Scope → ℕ → List X
+    → Result (List Y × Scope) ParseFault
+listed means s n [] = Ok ([], s)
+listed means s n (x ∷ xs) = do
+  first ← means s n x
+  others ← listed means first.1 (n + 1) xs
+  Ok (first.0 ∷ others.0, others.1)
 
 -- a function with a pointer for `hazard`, two without for `epoch`; `plain` where the file names none
-abbrev pub watch_means : Scope → ℕ → Option WatchTree → Result (Observer × ℕ) ParseFault
-watch_means s at None = Ok (Plain, at)
-watch_means s at (Some (UseHazard f)) = do
-  g ← protecting_at s f (at + 3)
-  Ok (Hazard g, at + watch_size (UseHazard f))
-watch_means s at (Some (UseEpoch e l)) = do
-  f ← without_pointer_at s e (at + 3)
-  g ← without_pointer_at s l (at + 5)
-  Ok (Epoch f g, at + watch_size (UseEpoch e l))
+abbrev pub watch_means : Scope → Option WatchTree → Result Observer ParseFault
+watch_means s None = Ok Plain
+watch_means s (Some (UseHazard f)) = do
+  g ← protecting_at s f
+  Ok (Hazard g)
+watch_means s (Some (UseEpoch e l)) = do
+  f ← without_pointer_at s e
+  g ← without_pointer_at s l
+  Ok (Epoch f g)
 
 -- nothing where no `init` stands
-abbrev pub init_means : Scope → ℕ → Option (List InitialTree) → Result (List Primitive × ℕ) ParseFault
-init_means s at None = Ok ([], at)
-init_means s at (Some is) = do
-  b ← initials_mean s (at + 2) is
-  Ok (b.0, b.1 + 1)
+abbrev pub init_means : Scope → Option (List (Placed InitialTree)) → Result (List Primitive) ParseFault
+init_means s None = Ok []
+init_means s (Some is) = initials_mean s is
 
 -- ---- operations
 
--- the parameters after the first, each after its comma; and the place after the last
-abbrev pub others_mean : Scope → ℕ → List Text → Result (Scope × ℕ) ParseFault
-others_mean s at [] = Ok (s, at)
-others_mean s at (name ∷ names) = do
-  t ← declared_parameter s name (at + 1)
-  others_mean t (at + 2) names
+-- parameters in order
+abbrev pub parameters_mean : Scope → List (Placed Text) → Result Scope ParseFault
+parameters_mean s [] = Ok s
+parameters_mean s (name ∷ names) = do
+  t ← declared_parameter s name
+  parameters_mean t names
 
--- parameters, parted by commas: the place after the last
-abbrev pub parameters_mean : Scope → ℕ → List Text → Result (Scope × ℕ) ParseFault
-parameters_mean s at [] = Ok (s, at)
-parameters_mean s at (name ∷ names) = do
-  t ← declared_parameter s name at
-  others_mean t (at + 1) names
+-- a local
+abbrev pub local_means : Scope → FieldTree → Result Scope ParseFault
+local_means s (PointerFieldTree name) = declared_local s name true
+local_means s (DataFieldTree name) = declared_local s name false
 
--- a local: three tokens, of which the name is the second
-abbrev pub local_means : Scope → ℕ → FieldTree → Result Scope ParseFault
-local_means s at (PointerFieldTree name) = declared_local s name (at + 1) true
-local_means s at (DataFieldTree name) = declared_local s name (at + 1) false
+-- locals in order
+abbrev pub locals_mean : Scope → List FieldTree → Result Scope ParseFault
+locals_mean s [] = Ok s
+locals_mean s (l ∷ ls) = do
+  t ← local_means s l
+  locals_mean t ls
 
--- each local takes three tokens
-abbrev pub locals_mean : Scope → ℕ → List FieldTree → Result (Scope × ℕ) ParseFault
-locals_mean s at [] = Ok (s, at)
-locals_mean s at (l ∷ ls) = do
-  t ← local_means s at l
-  locals_mean t (at + 3) ls
+-- an operation on a line: its name, its parameters, its locals and its statements
+abbrev pub op_means : List ℕ → ℕ → Scope → ℕ → OpTree → Result (Op × Scope) ParseFault
+op_means lines line s n (Operates name parameters locals body) = within_limit n limits.Ops (do
+  t ← declared s name Taken
+  p ← parameters_mean t parameters
+  l ← locals_mean p locals
+  b ← statements_mean lines l false body
+  Ok (record { name = length s.names.names; locals = l.locals; body = b.0; line = line }, without_locals b.1))
 
--- an operation: its name, its parameters after "(", its locals after ")" and "{", its statements, and "}"
-abbrev pub op_means : List ℕ → Scope → ℕ → ℕ → OpTree → Result (Op × Scope × ℕ) ParseFault
-op_means lines s n at (Operates name parameters locals body) = within_limit n limits.Ops (do
-  t ← declared s name (at + 1) Taken
-  p ← parameters_mean t (at + 3) parameters
-  l ← locals_mean p.0 (p.1 + 2) locals
-  b ← statements_mean lines l.0 false l.1 body
-  Ok (
-    record { name = length s.names.names; locals = l.0.locals; body = b.0; line = line_at lines at },
-    without_locals b.1,
-    b.2 + 1,
-  ))
+-- an operation at its place
+abbrev pub placed_op_means : List ℕ → Scope → ℕ → Placed OpTree → Result (Op × Scope) ParseFault
+placed_op_means lines s n o = op_means lines (line_at lines o.at) s n o.value
 
 -- ---- the outline
 
@@ -289,11 +272,9 @@ abbrev pub empty_outline : Outline
 empty_outline = record { depth = 0; invariants = []; items = [] }
 
 -- the outline after the operations, in the scope that they leave
-abbrev pub outlined_means : Scope → List Op → ℕ → Option OutlineTree → Result Outline ParseFault
-outlined_means s ops at None = Ok empty_outline
-outlined_means s ops at (Some t) = do
-  o ← outline_means s ops at t
-  Ok o.0
+abbrev pub outlined_means : Scope → List Op → Option OutlineTree → Result Outline ParseFault
+outlined_means s ops None = Ok empty_outline
+outlined_means s ops (Some t) = outline_means s ops t
 
 -- ---- the file
 
@@ -318,17 +299,17 @@ file_from fields pointers functions ghosts starts ops end = record {
 -- the parts of a file in order; lines are those of the tokens
 unfoldable pub file_means : List ℕ → FileTree → Result FileUnit ParseFault
 file_means lines f = do
-  s ← declared first_scope f.name 1 Taken
-  fields ← listed field_means s 0 3 f.fields
-  pointers ← listed shared_means fields.1 0 (fields.2 + 1) f.pointers
-  functions ← listed function_means pointers.1 0 pointers.2 f.functions
-  observer ← watch_means functions.1 functions.2 f.watched
-  ghosts ← listed ghost_means functions.1 0 observer.1 f.ghosts
-  starts ← init_means ghosts.1 ghosts.2 f.starts
-  ops ← listed (op_means lines) ghosts.1 0 starts.1 f.ops
-  outline ← outlined_means ops.1 ops.0 ops.2 f.outlined
+  s ← declared first_scope f.name Taken
+  fields ← listed field_means s 0 f.fields
+  pointers ← listed shared_means fields.1 0 f.pointers
+  functions ← listed function_means pointers.1 0 f.functions
+  observer ← watch_means functions.1 f.watched
+  ghosts ← listed ghost_means functions.1 0 f.ghosts
+  starts ← init_means ghosts.1 f.starts
+  ops ← listed (placed_op_means lines) ghosts.1 0 f.ops
+  outline ← outlined_means ops.1 ops.0 f.outlined
   Ok (record {
-    file = file_from fields.0 pointers.0 functions.0 ghosts.0 starts.0 ops.0 ops.1;
-    observer = observer.0;
+    file = file_from fields.0 pointers.0 functions.0 ghosts.0 starts ops.0 ops.1;
+    observer = observer;
     outline = outline;
   })

@@ -3,8 +3,8 @@ use Rattle.std.specs.Prelude.{◌≡◌, ◌≢◌, ◌+◌, ℕ, List, map, Res
 use Rattle.plc_lex.specs.declared.token.Token.{Token}
 use Rattle.plc_base.specs.declared.limits.What1.TheVariants as limits
 use Rattle.plc_base.specs.Limits.{most}
-use Rattle.plc_syntax.specs.Trees.{FileTree, file_tokens}
-use Rattle.plc_syntax.specs.Syntax.{kinds}
+use Rattle.plc_syntax.specs.Trees.{FileTree}
+use Rattle.plc_syntax.specs.Syntax.{kinds, AreOfFile}
 use Rattle.plc_syntax.specs.Nesting.{NoneTooDeep, SyntaxFaultAt, NestingFaultAt}
 use Rattle.plc_scope.specs.declared.fault.ParseFault.{ParseFault}
 use Rattle.plc_scope.specs.declared.fault.ParseFault.TheVariants as faults
@@ -18,7 +18,7 @@ lines_of ts = map (λ (t : Token). t.line) ts
 -- the tokens are those of a tree, which has this meaning
 pub record Means (ts : List Token) (meaning : Result FileUnit ParseFault) : Type 0 where
   pub tree : FileTree
-  pub tokens : file_tokens tree ≡ kinds ts
+  pub tokens : AreOfFile tree (kinds ts)
   pub is : file_means (lines_of ts) tree ≡ meaning
 
 -- no block stands too deep among the tokens, which are those of a tree with this meaning

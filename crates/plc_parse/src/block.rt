@@ -1,23 +1,19 @@
-// Statements and the blocks in them, each with the place after it. How deep blocks stand within one another was judged
-// before, so the recursion is 65 deep at most.
-ghost use Rattle.std.specs.Prelude.{◌+◌, ◌<◌};
+// Statements and the blocks in them. How deep blocks stand within one another was judged before, so the recursion is
+// 65 deep at most.
 ghost use Rattle.plc_lang.specs.Views.{blocks_of};
-ghost use Rattle.plc_syntax.specs.Sizes.{condition_size};
 ghost use Rattle.plc_syntax.specs.Views.{condition_tree};
 ghost use Rattle.plc_syntax.specs.Trees.{IfStatement, ChooseStatement, LoopStatement};
 ghost use Rattle.plc_tree.specs.Views.{else_tree, ors_tree, statement_tree};
 ghost use Rattle.plc_parse.specs.Meaning.{statements_mean, else_means};
-ghost use Rattle.plc_parse.specs.Sizes.{statement_size, statements_size, else_size, ors_size};
+ghost use Rattle.plc_parse.specs.Growth.{CanLabel};
 ghost use Rattle.plc_parse.specs.Units.{lines_of};
-ghost use Rattle.plc_parse.specs.Views.{CanMean, MeansHere, MeansStatement, choices_mean};
+ghost use Rattle.plc_parse.specs.Views.{MeansHere, MeansStatement, choices_mean};
 
 use crate::lines::line_at;
-use crate::placed::Placed;
-use crate::sizes::condition_size;
 use crate::statement::{atomic, break_statement, call_statement, label, primitive_statement};
 use plc_lang::{Block, Line, Stmt};
 use plc_lex::Token;
-use plc_scope::{Scope, condition};
+use plc_scope::{Meaning, Scope, condition};
 use plc_syntax::{Call, Condition};
 use plc_tree::{Block as BlockForm, Stmt as StmtForm};
 use std::alloc::Global;
@@ -33,44 +29,36 @@ pub struct Context<'a> {
     pub in_loop: bool,
 }
 
-/// A loop, and the place after it.
+/// A loop at a place.
 #[cycle(block)]
-fn loop_statement(context: Context, scope: &mut Scope, at: u32, block: &BlockForm) -> Placed<Stmt>
-    requires { CanMean scope.old at (statement_size (LoopStatement block.now)) }
-    ensures { MeansStatement (lines_of context.entry.tokens.now) context.entry.in_loop
-        (LoopStatement block.now) scope.old scope.new at result }
+fn loop_statement(context: Context, scope: &mut Scope, at: u32, block: &BlockForm) -> Meaning<Stmt>
+    requires { CanLabel scope.old }
+    ensures { MeansStatement (lines_of context.entry.tokens.now) context.entry.in_loop at
+        (LoopStatement block.now) scope.old scope.new result }
 {
     let body = Context {
         in_loop: true,
         ..context
     };
-    let (body, after) = statements(body, scope, at + 2, block)?;
-    Ok((Stmt::Loop(body), after + 1))
+    let body = statements(body, scope, block)?;
+    Ok(Stmt::Loop(body))
 }
 
-/// The second block of an `if`, which is empty where it is left out; and the place after it.
+/// The second block of an `if`, which is empty where it is left out.
 #[cycle(block)]
-fn else_block(
-    context: Context,
-    scope: &mut Scope,
-    at: u32,
-    block: &Option<BlockForm>,
-) -> Placed<Block>
-    requires { CanMean scope.old at (else_size (else_tree block.now)) }
+fn else_block(context: Context, scope: &mut Scope, block: &Option<BlockForm>) -> Meaning<Block>
+    requires { CanLabel scope.old }
     ensures { MeansHere (λ b. b)
-        (else_means (lines_of context.entry.tokens.now) scope.old context.entry.in_loop at (else_tree block.now))
-        scope.old scope.new at (else_size (else_tree block.now)) result }
+        (else_means (lines_of context.entry.tokens.now) scope.old context.entry.in_loop (else_tree block.now))
+        scope.old scope.new result }
 {
     match block {
-        None => Ok((Block::new(Vec::new(context.alloc)), at)),
-        Some(block) => {
-            let (block, after) = statements(context, scope, at + 2, block)?;
-            Ok((block, after + 1))
-        }
+        None => Ok(Block::new(Vec::new(context.alloc))),
+        Some(block) => statements(context, scope, block),
     }
 }
 
-/// An `if`, and the place after it.
+/// An `if` at a place.
 #[cycle(block)]
 fn if_statement(
     context: Context,
@@ -79,46 +67,42 @@ fn if_statement(
     form: Condition,
     yes: &BlockForm,
     no: &Option<BlockForm>,
-) -> Placed<Stmt>
-    requires { CanMean scope.old at (statement_size (IfStatement (condition_tree form) yes.now (else_tree no.now))) }
-    ensures { MeansStatement (lines_of context.entry.tokens.now) context.entry.in_loop
-        (IfStatement (condition_tree form.entry) yes.now (else_tree no.now)) scope.old scope.new at result }
+) -> Meaning<Stmt>
+    requires { CanLabel scope.old }
+    ensures { MeansStatement (lines_of context.entry.tokens.now) context.entry.in_loop at
+        (IfStatement (condition_tree form.entry) yes.now (else_tree no.now)) scope.old scope.new result }
 {
-    let cond = condition(scope, at + 2, form)?;
-    let (yes, after) = statements(context, scope, at + 2 + condition_size(form) + 2, yes)?;
-    let (no, after) = else_block(context, scope, after + 1, no)?;
-    Ok((Stmt::If { cond, yes, no }, after))
+    let cond = condition(scope, form)?;
+    let yes = statements(context, scope, yes)?;
+    let no = else_block(context, scope, no)?;
+    Ok(Stmt::If { cond, yes, no })
 }
 
-/// The blocks of a choice: the first two, whose meaning is known, and those after them, from a place on; and the
-/// place after the last one.
+/// The blocks of a choice: the first two, whose meaning is known, and those after them.
 #[cycle(block)]
 fn choices(
     context: Context,
     scope: &mut Scope,
     first: Block,
     second: Block,
-    start: u32,
     others: &[BlockForm],
-) -> Placed<Vec<Block>>
-    requires { CanMean scope.old start (ors_size (ors_tree others.now)) }
+) -> Meaning<Vec<Block>>
+    requires { CanLabel scope.old }
     ensures { MeansHere (λ bs. blocks_of bs.items)
-        (choices_mean (lines_of context.entry.tokens.now) scope.old context.entry.in_loop start first second
-        (ors_tree others.now)) scope.old scope.new start (ors_size (ors_tree others.now)) result }
+        (choices_mean (lines_of context.entry.tokens.now) scope.old context.entry.in_loop first second
+        (ors_tree others.now)) scope.old scope.new result }
 {
     let mut choices = Vec::new(context.alloc);
     choices.push(first)?;
     choices.push(second)?;
-    let mut at = start;
     for block in others {
-        let (block, after) = statements(context, scope, at + 2, block)?;
+        let block = statements(context, scope, block)?;
         choices.push(block)?;
-        at = after + 1;
     }
-    Ok((choices, at))
+    Ok(choices)
 }
 
-/// A choice, and the place after it.
+/// A choice at a place.
 #[cycle(block)]
 #[tactic(auto, unfolding(crate::specs::Views::choices_mean))]
 fn choose_statement(
@@ -128,28 +112,27 @@ fn choose_statement(
     first: &BlockForm,
     second: &BlockForm,
     others: &[BlockForm],
-) -> Placed<Stmt>
-    requires { CanMean scope.old at
-        (statement_size (ChooseStatement first.now second.now (ors_tree others.now))) }
-    ensures { MeansStatement (lines_of context.entry.tokens.now) context.entry.in_loop
-        (ChooseStatement first.now second.now (ors_tree others.now)) scope.old scope.new at result }
+) -> Meaning<Stmt>
+    requires { CanLabel scope.old }
+    ensures { MeansStatement (lines_of context.entry.tokens.now) context.entry.in_loop at
+        (ChooseStatement first.now second.now (ors_tree others.now)) scope.old scope.new result }
 {
-    let (first, after) = statements(context, scope, at + 2, first)?;
-    let (second, after) = statements(context, scope, after + 3, second)?;
-    let (blocks, after) = choices(context, scope, first, second, after + 1, others)?;
-    Ok((Stmt::Choose(blocks), after))
+    let first = statements(context, scope, first)?;
+    let second = statements(context, scope, second)?;
+    let blocks = choices(context, scope, first, second, others)?;
+    Ok(Stmt::Choose(blocks))
 }
 
-/// A statement, and the place after it.
+/// A statement at a place.
 #[cycle(block)]
-fn statement(context: Context, scope: &mut Scope, at: u32, stmt: &StmtForm) -> Placed<Stmt>
-    requires { CanMean scope.old at (statement_size (statement_tree stmt.now)) }
-    ensures { MeansStatement (lines_of context.entry.tokens.now) context.entry.in_loop
-        (statement_tree stmt.now) scope.old scope.new at result }
+fn statement(context: Context, scope: &mut Scope, at: u32, stmt: &StmtForm) -> Meaning<Stmt>
+    requires { CanLabel scope.old }
+    ensures { MeansStatement (lines_of context.entry.tokens.now) context.entry.in_loop at
+        (statement_tree stmt.now) scope.old scope.new result }
 {
     match stmt {
-        StmtForm::Primitive(form) => primitive_statement(scope, at, *form),
-        StmtForm::Atomic(forms) => atomic(context.alloc, scope, at, forms.as_slice()),
+        StmtForm::Primitive(form) => primitive_statement(scope, *form),
+        StmtForm::Atomic(forms) => atomic(context.alloc, scope, forms.as_slice()),
         StmtForm::Call {
             name,
             argument,
@@ -159,7 +142,7 @@ fn statement(context: Context, scope: &mut Scope, at: u32, stmt: &StmtForm) -> P
                 name: *name,
                 argument: *argument,
             };
-            call_statement(scope, at, form, *during)
+            call_statement(scope, form, *during)
         }
         StmtForm::If { condition, yes, no } => if_statement(
             context, scope, at, *condition, yes, no,
@@ -171,31 +154,24 @@ fn statement(context: Context, scope: &mut Scope, at: u32, stmt: &StmtForm) -> P
         } => choose_statement(context, scope, at, first, second, others.as_slice()),
         StmtForm::Loop(block) => loop_statement(context, scope, at, block),
         StmtForm::Break => break_statement(context.in_loop, at),
-        StmtForm::Return => Ok((Stmt::Return, at + 2)),
-        StmtForm::Label(name) => label(scope, at, *name),
+        StmtForm::Return => Ok(Stmt::Return),
+        StmtForm::Label(name) => label(scope, *name),
     }
 }
 
-/// The statements of a block, from a place on, with their lines; and the place after the last one.
+/// The statements of a block, with their lines.
 #[cycle(block)]
-pub fn statements(
-    context: Context,
-    scope: &mut Scope,
-    start: u32,
-    block: &BlockForm,
-) -> Placed<Block>
-    requires { CanMean scope.old start (statements_size block.now) }
+pub fn statements(context: Context, scope: &mut Scope, block: &BlockForm) -> Meaning<Block>
+    requires { CanLabel scope.old }
     ensures { MeansHere (λ b. b)
-        (statements_mean (lines_of context.entry.tokens.now) scope.old context.entry.in_loop start block.now)
-        scope.old scope.new start (statements_size block.now) result }
+        (statements_mean (lines_of context.entry.tokens.now) scope.old context.entry.in_loop block.now)
+        scope.old scope.new result }
 {
     let mut lines = Vec::new(context.alloc);
-    let mut at = start;
-    for stmt in block.stmts() {
-        let line = line_at(context.tokens, at);
-        let (stmt, after) = statement(context, scope, at, stmt)?;
+    for form in block.stmts() {
+        let line = line_at(context.tokens, form.at);
+        let stmt = statement(context, scope, form.at, &form.value)?;
         lines.push(Line { line, stmt })?;
-        at = after;
     }
-    Ok((Block::new(lines), at))
+    Ok(Block::new(lines))
 }

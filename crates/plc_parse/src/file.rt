@@ -1,21 +1,17 @@
 // What a file's tree means: the declarations before the operations, the operations, and the outline. Each part
 // has a function of its own, so that few values live where one may fail.
-ghost use Rattle.std.specs.Prelude.{◌≡◌, ◌≤◌, ◌<◌, ◌^◌, ◌+◌, ◌-◌, ◌*◌, ◌∷◌, Some, Ok, [], length, IfOk, map};
-ghost use Rattle.std.specs.List.{sum_by};
+ghost use Rattle.std.specs.Prelude.{◌≡◌, ◌≤◌, ◌+◌, ◌-◌, ◌*◌, ◌∷◌, Ok, [], length, IfOk};
 ghost use Rattle.plc_base.specs.Limits.{most, most_names};
 ghost use Rattle.plc_base.specs.declared.limits.What1.TheVariants as limits;
-ghost use Rattle.plc_syntax.specs.Sizes.{watch_size, function_size};
-ghost use Rattle.plc_syntax.specs.Views.{watch_tree, function_tree, field_tree, shared_name, watched_tree};
+ghost use Rattle.plc_syntax.specs.Views.{watched_tree};
 ghost use Rattle.plc_outparse.specs.Answers.{OpsFit};
 ghost use Rattle.plc_scope.specs.Answers.{Gives, HasRoom};
 ghost use Rattle.plc_scope.specs.Scope.{most_locals};
-ghost use Rattle.plc_tree.specs.FileViews.{heading_tree, file_tree, operation_tree};
+ghost use Rattle.plc_tree.specs.FileViews.{heading_tree, file_tree};
 ghost use Rattle.plc_tree.specs.FormViews.{starts_tree, outlined_tree};
 ghost use Rattle.plc_parse.specs.Growth.{AddsNames, op_names, most_labels, ghost_names, front_names};
 ghost use Rattle.plc_parse.specs.Meaning.{retire, watch_means, init_means, outlined_means};
 ghost use Rattle.plc_parse.specs.Meaning.{file_means};
-ghost use Rattle.plc_parse.specs.Sizes.{field_size, shared_size, watched_size, init_size, op_size, outlined_size};
-ghost use Rattle.plc_parse.specs.Sizes.{file_size};
 ghost use Rattle.plc_parse.specs.Parts.{declared_mean, front_means, body_means, parts_mean};
 ghost use Rattle.plc_parse.specs.Parts.{unit_from};
 ghost use Rattle.plc_parse.specs.Units.{lines_of};
@@ -24,8 +20,6 @@ ghost use Rattle.plc_parse.specs.Views.{declared_of, front_of};
 use crate::declaration::declare;
 use crate::lists::declare_all;
 use crate::operation::operations;
-use crate::placed::Placed;
-use crate::sizes::watch_size;
 use crate::step::step_of;
 use crate::unit::Unit;
 use plc_auto::Observer;
@@ -34,8 +28,8 @@ use plc_lang::{Field, File, Func, Ghost, Op, Prim};
 use plc_lex::Token;
 use plc_logic::Outline;
 use plc_outparse::outline_meaning;
-use plc_scope::{Binding, ParseFault, Scope};
-use plc_syntax::{Initial, Watch};
+use plc_scope::{Binding, Meaning, Scope};
+use plc_syntax::{Initial, Placed, Watch};
 use plc_tree::{File as FileForm, Heading, Outline as OutlineForm};
 use std::alloc::Global;
 
@@ -56,89 +50,58 @@ struct Declared {
     functions: Items<Func>,
 }
 
-/// The fields of the struct, from a place on, and then the shared pointers and the functions; and the place
-/// after them.
+/// The fields of the struct, and then the shared pointers and the functions.
 #[tactic(auto, unfolding(crate::specs::Parts::declared_mean))]
-fn declarations(alloc: Global, scope: &mut Scope, at: u32, form: &Heading) -> Placed<Declared>
-    requires room { HasRoom scope.old (most limits.Fields + most limits.Shared + most limits.Calls + 1) }
-    requires place { at + 1 + sum_by field_size (map field_tree form.now.node.fields)
-        + sum_by shared_size (map shared_name form.now.pointers)
-        + sum_by function_size (map function_tree form.now.functions) < 2 ^ 32 }
-    ensures read { Gives (λ r. (declared_of r.0, scope.new, r.1)) result
-        (declared_mean scope.old at (heading_tree form.now)) }
-    ensures place { IfOk result (λ r. r.1 ≡ at + 1 + sum_by field_size (map field_tree form.now.node.fields)
-        + sum_by shared_size (map shared_name form.now.pointers)
-        + sum_by function_size (map function_tree form.now.functions)) }
+fn declarations(alloc: Global, scope: &mut Scope, form: &Heading) -> Meaning<Declared>
+    requires { HasRoom scope.old (most limits.Fields + most limits.Shared + most limits.Calls + 1) }
+    ensures read { Gives (λ declared. (declared_of declared, scope.new)) result
+        (declared_mean scope.old (heading_tree form.now)) }
     ensures declares { IfOk result (λ _. AddsNames scope.old scope.new
         (most limits.Fields + most limits.Shared + most limits.Calls)) }
 {
-    let (fields, after) = declare_all(alloc, scope, at, form.node.fields.as_slice())?;
-    let (shared, after) = declare_all(alloc, scope, after + 1, form.pointers.as_slice())?;
-    let (functions, after) = declare_all(alloc, scope, after, form.functions.as_slice())?;
-    let declared = Declared {
+    let fields = declare_all(alloc, scope, form.node.fields.as_slice())?;
+    let shared = declare_all(alloc, scope, form.pointers.as_slice())?;
+    let functions = declare_all(alloc, scope, form.functions.as_slice())?;
+    Ok(Declared {
         fields,
         shared,
         functions,
-    };
-    Ok((declared, after))
+    })
 }
 
-/// What a file says that is watched.
-fn observer(scope: &Scope, at: u32, watch: Watch) -> Result<Observer, ParseFault>
-    requires locals { length scope.now.locals ≤ most_locals }
-    requires place { at + watch_size (watch_tree watch) < 2 ^ 32 }
-    ensures { Gives (λ o. (o, at + watch_size (watch_tree watch.entry))) result
-        (watch_means scope.now at (Some (watch_tree watch.entry))) }
+/// What a file says that is watched: plain where it says nothing.
+fn observer(scope: &Scope, watch: Option<Watch>) -> Meaning<Observer>
+    requires { length scope.now.locals ≤ most_locals }
+    ensures { Gives (λ o. o) result (watch_means scope.now (watched_tree watch.entry)) }
 {
     match watch {
-        Watch::Hazard(name) => Ok(Observer::Hazard(scope.protecting_at(name, at + 3)?)),
-        Watch::Epoch(enter, leave) => {
-            let enter = scope.without_pointer_at(enter, at + 3)?;
-            let leave = scope.without_pointer_at(leave, at + 5)?;
+        None => Ok(Observer::Plain),
+        Some(Watch::Hazard(name)) => Ok(Observer::Hazard(scope.protecting_at(name)?)),
+        Some(Watch::Epoch(enter, leave)) => {
+            let enter = scope.without_pointer_at(enter)?;
+            let leave = scope.without_pointer_at(leave)?;
             Ok(Observer::Epoch(enter, leave))
         }
     }
 }
 
-/// The observer, which is plain where the file names none; and the place after it.
-fn observer_or_plain(scope: &Scope, at: u32, watch: Option<Watch>) -> Placed<Observer>
-    requires locals { length scope.now.locals ≤ most_locals }
-    requires place { at + watched_size (watched_tree watch) < 2 ^ 32 }
-    ensures read { Gives (λ r. (r.0, r.1)) result (watch_means scope.now at (watched_tree watch.entry)) }
-    ensures place { IfOk result (λ r. r.1 ≡ at + watched_size (watched_tree watch.entry)) }
-{
-    match watch {
-        Some(watch) => {
-            let observer = observer(scope, at, watch)?;
-            Ok((observer, at + watch_size(watch)))
-        }
-        None => Ok((Observer::Plain, at)),
-    }
-}
-
-/// The primitives of `init`, which may be left out; and the place after it.
+/// The primitives of `init`, which may be left out.
 fn init_primitives(
     alloc: Global,
     scope: &Scope,
-    at: u32,
-    form: &Option<Items<Initial>>,
-) -> Placed<Items<Prim>>
-    requires locals { length scope.now.locals ≤ most_locals }
-    requires place { at + init_size (starts_tree form.now) < 2 ^ 32 }
-    ensures read { Gives (λ r. (r.0, r.1)) result (init_means scope.now at (starts_tree form.now)) }
-    ensures place { IfOk result (λ r. r.1 ≡ at + init_size (starts_tree form.now)) }
+    form: &Option<Items<Placed<Initial>>>,
+) -> Meaning<Items<Prim>>
+    requires { length scope.now.locals ≤ most_locals }
+    ensures { Gives (λ primitives. primitives) result (init_means scope.now (starts_tree form.now)) }
 {
     match form {
-        Some(forms) => {
-            let (primitives, after) = step_of(alloc, scope, at + 2, forms.as_slice())?;
-            Ok((primitives, after + 1))
-        }
-        None => Ok((Items::new(alloc), at)),
+        Some(forms) => step_of(alloc, scope, forms.as_slice()),
+        None => Ok(Items::new(alloc)),
     }
 }
 
 /// The functions of a file: `retire`, and then those that it declares.
-fn with_retire(functions: Items<Func>) -> Result<Items<Func>, ParseFault>
+fn with_retire(functions: Items<Func>) -> Meaning<Items<Func>>
     ensures { Gives (λ all. all) result (Ok (retire ∷ functions)) }
 {
     let mut all = functions.into_vec();
@@ -151,13 +114,11 @@ fn outline_or_empty(
     alloc: Global,
     scope: &Scope,
     ops: &[Op],
-    at: u32,
     form: &Option<OutlineForm>,
-) -> Result<Outline, ParseFault>
+) -> Meaning<Outline>
     requires labels { length scope.now.labels ≤ most_labels }
     requires ops { OpsFit ops.now }
-    requires place { at + outlined_size (outlined_tree form.now) < 2 ^ 32 }
-    ensures { Gives (λ outline. outline) result (outlined_means scope.now ops.now at (outlined_tree form.now)) }
+    ensures { Gives (λ outline. outline) result (outlined_means scope.now ops.now (outlined_tree form.now)) }
 {
     match form {
         None => Ok(Outline {
@@ -165,10 +126,7 @@ fn outline_or_empty(
             invariants: Items::new(alloc),
             items: Items::new(alloc),
         }),
-        Some(form) => {
-            let (outline, _after) = outline_meaning(alloc, scope, ops, at, form)?;
-            Ok(outline)
-        }
+        Some(form) => outline_meaning(alloc, scope, ops, form),
     }
 }
 
@@ -185,58 +143,50 @@ struct Front {
     init: Items<Prim>,
 }
 
-/// What stands before the operations, after the struct's name and its brace; and the place after it.
+/// What stands before the operations, after the struct's name.
 #[tactic(auto, unfolding(crate::specs::Parts::front_means))]
-fn before_operations(alloc: Global, scope: &mut Scope, at: u32, form: &Heading) -> Placed<Front>
+fn before_operations(alloc: Global, scope: &mut Scope, form: &Heading) -> Meaning<Front>
     requires room { HasRoom scope.old (front_names + ghost_names) }
     requires locals { scope.old.locals ≡ [] }
-    requires place { at + file_size (heading_tree form.now) < 2 ^ 32 + 3 }
-    ensures read { Gives (λ r. (front_of r.0, scope.new, r.1)) result
-        (front_means scope.old at (heading_tree form.now)) }
-    ensures place { IfOk result (λ r. r.1 + 3 ≡ at + file_size (heading_tree form.now)) }
+    ensures read { Gives (λ front. (front_of front, scope.new)) result
+        (front_means scope.old (heading_tree form.now)) }
     ensures declares { IfOk result (λ _. AddsNames scope.old scope.new front_names) }
 {
-    let (declared, after) = declarations(alloc, scope, at, form)?;
-    let (observer, after) = observer_or_plain(scope, after, form.watched)?;
-    let (ghosts, after) = declare_all(alloc, scope, after, form.auxiliaries.as_slice())?;
-    match init_primitives(alloc, scope, after, &form.starts) {
-        Ok((init, after)) => {
-            let front = Front {
-                declared,
-                observer,
-                ghosts,
-                init,
-            };
-            Ok((front, after))
-        }
+    let declared = declarations(alloc, scope, form)?;
+    let observer = observer(scope, form.watched)?;
+    let ghosts = declare_all(alloc, scope, form.auxiliaries.as_slice())?;
+    match init_primitives(alloc, scope, &form.starts) {
+        Ok(init) => Ok(Front {
+            declared,
+            observer,
+            ghosts,
+            init,
+        }),
         Err(fault) => Err(fault),
     }
 }
 
-/// The operations, from a place on, and the outline.
+/// The operations and the outline.
 #[tactic(auto, unfolding(crate::specs::Parts::body_means))]
 fn operations_and_outline(
     alloc: Global,
     scope: &mut Scope,
     tokens: &[Token],
-    at: u32,
     form: &FileForm,
-) -> Result<(Items<Op>, Outline), ParseFault>
+) -> Meaning<(Items<Op>, Outline)>
     requires room { HasRoom scope.old (op_names * (most limits.Ops + 1) + most_labels + 1) }
     requires locals { scope.old.locals ≡ [] }
     requires labels { scope.old.labels ≡ [] }
-    requires place { at + sum_by op_size (map operation_tree form.now.operations)
-        + outlined_size (outlined_tree form.now.outline) < 2 ^ 32 }
     ensures { Gives (λ r. (r.0, r.1, scope.new)) result
-        (body_means (lines_of tokens.now) scope.old at (file_tree form.now)) }
+        (body_means (lines_of tokens.now) scope.old (file_tree form.now)) }
 {
-    let (ops, after) = operations(alloc, scope, tokens, at, form.operations.as_slice())?;
-    let outline = outline_or_empty(alloc, scope, ops.as_slice(), after, &form.outline)?;
+    let ops = operations(alloc, scope, tokens, form.operations.as_slice())?;
+    let outline = outline_or_empty(alloc, scope, ops.as_slice(), &form.outline)?;
     Ok((ops, outline))
 }
 
 /// The unit of these parts, with the names and labels in reach at its end.
-fn unit(scope: Scope, front: Front, ops: Items<Op>, outline: Outline) -> Result<Unit, ParseFault>
+fn unit(scope: Scope, front: Front, ops: Items<Op>, outline: Outline) -> Meaning<Unit>
     ensures { Gives (λ unit. unit) result (Ok (unit_from (front_of front) (ops, outline, scope))) }
 {
     let Declared {
@@ -269,16 +219,15 @@ fn parts(
     scope: &mut Scope,
     tokens: &[Token],
     form: &FileForm,
-) -> Result<(Front, Items<Op>, Outline), ParseFault>
+) -> Meaning<(Front, Items<Op>, Outline)>
     requires room { HasRoom scope.old (most_names - 2) }
     requires locals { scope.old.locals ≡ [] }
     requires labels { scope.old.labels ≡ [] }
-    requires place { file_size (file_tree form.now) < 2 ^ 32 }
     ensures { Gives (λ r. (front_of r.0, r.1, r.2, scope.new)) result
         (parts_mean (lines_of tokens.now) scope.old (file_tree form.now)) }
 {
-    let (front, after) = before_operations(alloc, scope, 3, &form.heading)?;
-    match operations_and_outline(alloc, scope, tokens, after, form) {
+    let front = before_operations(alloc, scope, &form.heading)?;
+    match operations_and_outline(alloc, scope, tokens, form) {
         Ok((ops, outline)) => Ok((front, ops, outline)),
         Err(fault) => Err(fault),
     }
@@ -286,12 +235,11 @@ fn parts(
 
 /// The unit that a file's tree means, with the lines of its tokens.
 #[tactic(auto, unfolding(crate::specs::Meaning::file_means))]
-pub fn file_unit(alloc: Global, tokens: &[Token], form: &FileForm) -> Result<Unit, ParseFault>
-    requires { file_size (file_tree form.now) < 2 ^ 32 }
+pub fn file_unit(alloc: Global, tokens: &[Token], form: &FileForm) -> Meaning<Unit>
     ensures { Gives (λ unit. unit) result (file_means (lines_of tokens.now) (file_tree form.now)) }
 {
     let mut scope = Scope::new(alloc)?;
-    declare(&mut scope, form.heading.node.name, 1, Binding::Taken)?;
+    declare(&mut scope, form.heading.node.name, Binding::Taken)?;
     match parts(alloc, &mut scope, tokens, form) {
         Ok((front, ops, outline)) => unit(scope, front, ops, outline),
         Err(fault) => Err(fault),

@@ -4,7 +4,6 @@
 #![tactic(auto)]
 
 mod auxiliary;
-mod auxiliary_name;
 mod block;
 mod declaration;
 mod file;
@@ -13,9 +12,7 @@ mod lists;
 mod local;
 mod marks;
 mod operation;
-mod placed;
 mod reading;
-mod sizes;
 mod statement;
 mod step;
 mod unit;

@@ -1,10 +1,10 @@
 // Primitives that are one step: those of an atomic block and those of `init`. A step has at most 64,
 // of which one allocates; `skip` counts for none.
-ghost use Rattle.std.specs.Prelude.{◌≡◌, ◌==◌, ◌+◌, ◌<◌, ◌≤◌, ◌^◌, if◌then◌else◌, Option, Some};
-ghost use Rattle.std.specs.Prelude.{Result, Ok, [], false, IfOk, length, map};
-ghost use Rattle.std.specs.List.{sum_by};
+ghost use Rattle.std.specs.Prelude.{◌≡◌, ◌==◌, ◌+◌, ◌≤◌, if◌then◌else◌, Option, Some, Result, Ok, [], false};
+ghost use Rattle.std.specs.Prelude.{length, map};
 ghost use Rattle.plc_base.specs.Limits.{most};
 ghost use Rattle.plc_lang.specs.declared.syntax.Primitive.{Primitive};
+ghost use Rattle.plc_syntax.specs.Views.{placed_as};
 ghost use Rattle.plc_scope.specs.Answers.{Gives};
 ghost use Rattle.plc_scope.specs.Limits.{stands_at};
 ghost use Rattle.plc_scope.specs.Scope.{most_locals};
@@ -13,12 +13,10 @@ ghost use Rattle.plc_parse.specs.Kinds.{atomic_forms, initial_forms};
 ghost use Rattle.plc_parse.specs.Meaning.{forms_mean};
 ghost use Rattle.plc_parse.specs.Views.{with_form};
 
-use crate::placed::Placed;
-use crate::sizes::{primitive_size, set_size};
 use plc_base::{Items, What1};
 use plc_lang::{Prim, is_new};
 use plc_scope::{Meaning, ParseFault, Scope, initial, primitive};
-use plc_syntax::{Initial, Primitive as PrimitiveForm};
+use plc_syntax::{Initial, Placed, Primitive as PrimitiveForm};
 use std::alloc::Global;
 
 /// The primitives of a step so far, and whether one of them allocates.
@@ -91,71 +89,50 @@ impl Step {
     }
 }
 
-/// A form that a step is made of, with its semicolon.
+/// A form that a step is made of.
 pub trait StepForm: Copy {
-    ghost use Rattle.std.specs.Prelude.{◌≡◌, ◌+◌, ◌<◌, ◌≤◌, ◌^◌, length};
+    ghost use Rattle.std.specs.Prelude.{◌≤◌, length};
     ghost use Rattle.plc_scope.specs.Answers.{Gives};
     ghost use Rattle.plc_scope.specs.Scope.{most_locals};
     ghost use Rattle.plc_parse.specs.Kinds.{FormKind};
 
     ghost kind: { FormKind Self };
 
-    /// What the form means at a place.
-    fn meaning(self, scope: &Scope, at: u32) -> Meaning<Option<Prim>>
-        requires locals { length scope.now.locals ≤ most_locals }
-        requires place { at + kind.size (kind.tree self) < 2 ^ 32 }
-        ensures { Gives (λ k. k) result (kind.means scope.now at (kind.tree self)) };
-
-    /// How many tokens the form has, without its semicolon.
-    fn size(self) -> u32
-        ensures { result ≡ kind.size (kind.tree self) };
+    /// What the form means.
+    fn meaning(self, scope: &Scope) -> Meaning<Option<Prim>>
+        requires { length scope.now.locals ≤ most_locals }
+        ensures { Gives (λ k. k) result (kind.means scope.now (kind.tree self)) };
 }
 
 impl<'a> StepForm for PrimitiveForm<'a> {
     ghost kind = { atomic_forms };
 
-    fn meaning(self, scope: &Scope, at: u32) -> Meaning<Option<Prim>> {
-        primitive(scope, at, self)
-    }
-
-    fn size(self) -> u32 {
-        primitive_size(self)
+    fn meaning(self, scope: &Scope) -> Meaning<Option<Prim>> {
+        primitive(scope, self)
     }
 }
 
 impl<'a> StepForm for Initial<'a> {
     ghost kind = { initial_forms };
 
-    fn meaning(self, scope: &Scope, at: u32) -> Meaning<Option<Prim>> {
-        initial(scope, at, self)
-    }
-
-    fn size(self) -> u32 {
-        match self {
-            Initial::Set(set) => set_size(set),
-            Initial::Ghost(_) => 6,
-        }
+    fn meaning(self, scope: &Scope) -> Meaning<Option<Prim>> {
+        initial(scope, self)
     }
 }
 
-/// The primitives of a step, from a place on, and the place after the last one's semicolon.
+/// The primitives of a step.
 pub fn step_of<F: StepForm>(
     alloc: Global,
     scope: &Scope,
-    start: u32,
-    forms: &[F],
-) -> Placed<Items<Prim>>
-    requires locals { length scope.now.locals ≤ most_locals }
-    requires place { start + sum_by (λ x. F.kind.size x + 1) (map F.kind.tree forms.now) < 2 ^ 32 }
-    ensures read { Gives (λ r. (r.0, r.1)) result
-        (forms_mean (F.kind.means scope.now) F.kind.size 0 false start (map F.kind.tree forms.now)) }
-    ensures place { IfOk result (λ r. r.1 ≡ start + sum_by (λ x. F.kind.size x + 1) (map F.kind.tree forms.now)) }
+    forms: &[Placed<F>],
+) -> Meaning<Items<Prim>>
+    requires { length scope.now.locals ≤ most_locals }
+    ensures { Gives (λ primitives. primitives) result
+        (forms_mean (F.kind.means scope.now) 0 false (map (placed_as F.kind.tree) forms.now)) }
 {
     let mut step = Step::new(alloc);
-    let mut at = start;
     for form in forms {
-        step.add(at, form.meaning(scope, at))?;
-        at += form.size() + 1;
+        step.add(form.at, form.value.meaning(scope))?;
     }
-    Ok((step.primitives, at))
+    Ok(step.primitives)
 }

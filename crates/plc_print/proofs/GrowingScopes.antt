@@ -5,7 +5,7 @@ use Rattle.plc_base.specs.Limits.{most}
 use Rattle.plc_base.specs.declared.limits.What1.TheVariants as limits
 use Rattle.plc_base.specs.Names.{place_of}
 use Rattle.plc_lang.specs.declared.syntax.File.{File}
-use Rattle.plc_syntax.specs.Trees.{Text}
+use Rattle.plc_syntax.specs.Trees.{Text, Placed}
 use Rattle.plc_scope.specs.declared.fault.ParseFault.{ParseFault}
 use Rattle.plc_scope.specs.declared.scope.Scope.{Scope}
 use Rattle.plc_scope.specs.declared.binding.Binding.{Binding}
@@ -15,7 +15,9 @@ use Rattle.plc_parse.specs.Meaning.{label_means, during_means}
 use Rattle.plc_scope.proofs.Holds.{Has, next, unless}
 use Rattle.plc_lang.specs.Names.{name_at, label_name}
 use Rattle.plc_parse.proofs.Growth.{from_last}
-use Rattle.plc_print.proofs.Steps.{within, after, Found, Within}
+use Rattle.plc_syntax.proofs.Unplaced.{unplaced_label}
+use Rattle.plc_print.specs.Outlines.{bare}
+use Rattle.plc_print.proofs.Steps.{Within}
 use Rattle.plc_print.proofs.SpelledNames.{IsBound, Bound, Ends, from_number, number_named}
 
 pub within_append : {A : Type 0} (xs ys : List A) → Within xs (xs ++ ys)
@@ -60,15 +62,12 @@ module _ (file : File) where
     pub labels : t.labels ≡ s.labels
     pub locals : t.locals ≡ s.locals
 
-  pub declared_found : (s : Scope) (name : Text) (at : ℕ) (b : Binding) → Has (Found (Declares name b s) (λ a. declared s name a b)) (declared s name at b)
-  declared_found s name at b = by (place_of name s.names.names)
+  pub declared_found : (s : Scope) (name : Placed Text) (b : Binding) → Has (Declares name.value b s) (declared s name b)
+  declared_found s name b = by (place_of name.value s.names.names)
     where
-      by : (o : Option ℕ) → Has (Found (Declares name b s) (λ a. if_new o a (with_name s name b))) (if_new o at (with_name s name b))
+      by : (o : Option ℕ) → Has (Declares name.value b s) (if_new o name.at (with_name s name.value b))
       by (Some i) = tt
-      by None = record {
-        named = record { names = within_append s.names.names (name ∷ []); there = last_there s.names.names name; bound = more_bound s name b; labels = refl; locals = refl };
-        again = λ a. refl;
-      }
+      by None = record { names = within_append s.names.names (name.value ∷ []); there = last_there s.names.names name.value; bound = more_bound s name.value b; labels = refl; locals = refl }
 
   -- what is bound to nothing is declared anywhere
   pub goes_by : (s t : Scope) (name : Text) (b : Binding) → Declares name b s t → (Bound file s → IsBound file (length s.names.names) b) → Goes s t
@@ -100,24 +99,20 @@ module _ (file : File) where
         (number_named file (with_label t (length s.names.names)) (length s.names.names) n ends d.there);
   }
 
-  pub label_found : (s : Scope) (at : ℕ) (n : Text) → Has (Found (LabelRead s n) (λ a. label_means s a n)) (label_means s at n)
-  label_found s at n = unless (Found (LabelRead s n) (λ a. label_means s a n)) (length s.labels == most limits.Labels) _ _ (λ below.
-      new_label (declared s n (at + 1) Taken) below (declared_found s n (at + 1) Taken))
+  pub label_found : (s : Scope) (n : Placed Text) → Has (LabelRead s n.value) (label_means s n)
+  label_found s n = unless (LabelRead s n.value) (length s.labels == most limits.Labels) _ _ (λ below. new_label (declared s n Taken) (declared_found s n Taken))
     where
-      new_label : (r : Result Scope ParseFault) → (length s.labels == most limits.Labels) ≡ false → Has (Found (Declares n Taken s) (λ a. declared s n a Taken)) r
-          → Has (Found (LabelRead s n) (λ a. label_means s a n)) ((r >>= λ t. Ok (with_label t (length s.names.names))) >>= λ t. Ok (length s.labels, t))
-      new_label (Err e) below h = tt
-      new_label (Ok t) below h = record {
-        named = label_declared s t n h.named;
-        again = λ a. within (length s.labels == most limits.Labels) _ _ _ below (ap (λ (r : Result Scope ParseFault). (r >>= λ t. Ok (with_label t (length s.names.names))) >>= λ t. Ok (length s.labels, t)) (h.again (a + 1)));
-      }
+      new_label : (r : Result Scope ParseFault) → Has (Declares n.value Taken s) r
+          → Has (LabelRead s n.value) ((r >>= λ t. Ok (with_label t (length s.names.names))) >>= λ t. Ok (length s.labels, t))
+      new_label (Err e) h = tt
+      new_label (Ok t) h = label_declared s t n.value h
 
-  pub record DuringRead (s : Scope) (d : Option Text) (x : Option ℕ × Scope) : Type 0 where
+  pub record DuringRead (s : Scope) (d : Option (Placed Text)) (x : Option ℕ × Scope) : Type 0 where
     pub goes : Goes s x.1
     pub locals : x.1.locals ≡ s.locals
-    pub name : Ends file x.1 → option_map (label_name file) x.0 ≡ d
+    pub name : Ends file x.1 → option_map (λ l. bare (label_name file l)) x.0 ≡ unplaced_label d
 
-  pub during_found : (s : Scope) (at : ℕ) (d : Option Text) → Has (Found (DuringRead s d) (λ a. during_means s a d)) (during_means s at d)
-  during_found s at None = record { named = record { goes = goes_nowhere s; locals = refl; name = λ e. refl }; again = λ a. refl }
-  during_found s at (Some n) = next (Found (LabelRead s n) (λ a. label_means s a n)) _ (label_means s at n) _ (label_found s at n) (λ l f.
-      record { named = record { goes = f.named.goes; locals = f.named.locals; name = λ e. ap Some (f.named.name e) }; again = λ a. after _ _ _ _ (f.again a) refl })
+  pub during_found : (s : Scope) (d : Option (Placed Text)) → Has (DuringRead s d) (during_means s d)
+  during_found s None = record { goes = goes_nowhere s; locals = refl; name = λ e. refl }
+  during_found s (Some n) = next (LabelRead s n.value) _ (label_means s n) _ (label_found s n) (λ l f.
+      record { goes = f.goes; locals = f.locals; name = λ e. ap (λ m. Some (bare m)) (f.name e) })

@@ -7,6 +7,7 @@ use Rattle.plc_lex.specs.declared.token.Symbol.TheVariants.{OpenBrace, CloseBrac
 use Rattle.plc_lex.specs.Spelling.{IsKind}
 use Rattle.plc_syntax.specs.Trees.{FileTree, file_tokens}
 use Rattle.plc_syntax.specs.Nesting.{NoneTooDeep}
+use Rattle.plc_syntax.proofs.Unplaced.{unplaced_file}
 use Rattle.plc_syntax.proofs.Braced.{Fine, is_atomic, AnyToken, Shallow, shallow_tokens, tokens_shallow}
 use Rattle.plc_print.proofs.NormalTrees.{normal_file}
 use Rattle.plc_print.proofs.KeptTokens.{file_kept}
@@ -35,10 +36,10 @@ kinds_fine o c a (Symbol OpenBrace ∷ ts) h = (tt, kinds_fine (suc o) c false t
 kinds_fine o c a (Symbol CloseBrace ∷ ts) h = (tt, kinds_fine o (suc c) false ts h)
 kinds_fine o c a (Symbol _ ∷ ts) h = (tt, kinds_fine o c false ts h)
 
-pub kinds_kept : (f : FileTree) → AllByRecursion IsKind (file_tokens f) → AllByRecursion IsKind (file_tokens (normal_file f))
-kinds_kept f h = kinds_fine 0 0 false (file_tokens (normal_file f)) (file_kept IsKind AnyDepth f (fine_kinds 0 0 false (file_tokens f) h))
+pub kinds_kept : (f : FileTree) → AllByRecursion IsKind (file_tokens f) → AllByRecursion IsKind (file_tokens (unplaced_file (normal_file f)))
+kinds_kept f h = kinds_fine 0 0 false (file_tokens (unplaced_file (normal_file f))) (file_kept IsKind AnyDepth f (fine_kinds 0 0 false (file_tokens f) h))
 
 -- ---- nesting
 
-pub nesting_kept : (f : FileTree) → NoneTooDeep (file_tokens f) → NoneTooDeep (file_tokens (normal_file f))
-nesting_kept f h = tokens_shallow (file_tokens (normal_file f)) (file_kept AnyToken Shallow f (shallow_tokens (file_tokens f) h))
+pub nesting_kept : (f : FileTree) → NoneTooDeep (file_tokens f) → NoneTooDeep (file_tokens (unplaced_file (normal_file f)))
+nesting_kept f h = tokens_shallow (file_tokens (unplaced_file (normal_file f))) (file_kept AnyToken Shallow f (shallow_tokens (file_tokens f) h))

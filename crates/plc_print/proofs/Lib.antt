@@ -9,6 +9,7 @@ pub mod NormalTrees
 pub mod OutlineLines
 pub mod Parts
 pub mod ReadBack
+pub mod SameUnits
 pub mod SpelledClauses
 pub mod SpelledDeclarations
 pub mod SpelledFiles

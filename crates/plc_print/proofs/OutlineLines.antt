@@ -6,13 +6,12 @@ use Rattle.plc_lang.specs.declared.syntax.Op.{Op}
 use Rattle.plc_lang.specs.Locals.{locals_of}
 use Rattle.plc_lang.specs.Statements.{Statement, One, Atomic, Call, If, Choose, Loop, Break, Return, Skip, Label, Statements, Empty, Then, Blocks, NoBlock, And}
 use Rattle.plc_lang.specs.Labels.{statement_labels, block_labels, blocks_labels, labels_by_op}
-use Rattle.plc_syntax.specs.Trees.{Text, ClauseTree, ItemTree, InvariantItem, OverItem, AtItem, OutlineTree, Outlined}
+use Rattle.plc_syntax.specs.Trees.{Text, Placed, ClauseTree, ItemTree, InvariantItem, OverItem, AtItem, OutlineTree, Outlined}
 use Rattle.plc_scope.specs.declared.fault.ParseFault.{ParseFault}
 use Rattle.plc_scope.specs.declared.scope.Scope.{Scope}
 use Rattle.plc_scope.specs.Scope.{◌>>=◌}
 use Rattle.plc_scope.proofs.Sequence.{bind_same}
-use Rattle.plc_outparse.specs.Sizes.{depth_size}
-use Rattle.plc_outparse.specs.Meaning.{in_turn, clause_line_means, op_named, op_at, Parts, item_step, depth_means, outline_means}
+use Rattle.plc_outparse.specs.Meaning.{in_turn, clause_means, op_named, op_at, Parts, item_step, depth_means, outline_means}
 use Rattle.plc_parse.specs.Meaning.{outlined_means}
 use Rattle.plc_print.specs.Laws.{statement_without_lines, without_lines, blocks_without_lines, op_without_lines}
 
@@ -59,12 +58,12 @@ same_locals (o ∷ ops) (suc k) = same_locals ops k
 -- ---- items
 
 module _ (s : Scope) (ops : List Op) (by_op : List (List ℕ)) where
-  same_clause : (at k : ℕ) (c : ClauseTree) → clause_line_means s (locals_of (map op_without_lines ops) k) true at c ≡ clause_line_means s (locals_of ops k) true at c
-  same_clause at k c = ap (λ (ls : List Local). clause_line_means s ls true at c) (same_locals ops k)
+  same_clause : (k : ℕ) (c : ClauseTree) → clause_means s (locals_of (map op_without_lines ops) k) true c ≡ clause_means s (locals_of ops k) true c
+  same_clause k c = ap (λ (ls : List Local). clause_means s ls true c) (same_locals ops k)
 
-  same_op : (name : Text) (at : ℕ) → op_at s (map op_without_lines ops) name at ≡ op_at s ops name at
+  same_op : (name : Placed Text) → op_at s (map op_without_lines ops) name ≡ op_at s ops name
   unfolding op_at
-  same_op name at = simp same_named
+  same_op name = simp same_named
 
   same_item : (st : Parts) (x : ItemTree) → item_step s (map op_without_lines ops) by_op st x ≡ item_step s ops by_op st x
   unfolding item_step
@@ -78,15 +77,14 @@ same_turns : {S X : Type 0} (f g : S → X → Result S ParseFault) → ((s : S)
 same_turns f g same s [] = refl
 same_turns f g same s (x ∷ xs) = ap (λ r. r >>= λ t. in_turn f t xs) (same s x) ∙ bind_same (g s x) (λ t. in_turn f t xs) (λ t. in_turn g t xs) (λ t. same_turns f g same t xs)
 
-lineless : (s : Scope) (ops : List Op) (at : ℕ) (t : OutlineTree) → outline_means s (map op_without_lines ops) at t ≡ outline_means s ops at t
+lineless : (s : Scope) (ops : List Op) (t : OutlineTree) → outline_means s (map op_without_lines ops) t ≡ outline_means s ops t
 unfolding outline_means
-lineless s ops at (Outlined d xs) = bind_same (depth_means (at + 2) d) _ _ (λ depth.
-    ap (λ (all : Result Parts ParseFault). all >>= λ p. Ok (record { depth = depth; invariants = p.0; items = p.1 }, p.2 + 1))
-    (ap (λ (by_op : List (List ℕ)). in_turn (item_step s (map op_without_lines ops) by_op) ([], [], at + 2 + depth_size d) xs) (same_by_op ops)
-    ∙ same_turns (item_step s (map op_without_lines ops) (labels_by_op ops)) (item_step s ops (labels_by_op ops)) (same_item s ops (labels_by_op ops)) ([], [], at + 2 + depth_size d) xs))
+lineless s ops (Outlined d xs) = bind_same (depth_means d) _ _ (λ depth.
+    ap (λ (all : Result Parts ParseFault). all >>= λ p. Ok (record { depth = depth; invariants = p.0; items = p.1 }))
+    (ap (λ (by_op : List (List ℕ)). in_turn (item_step s (map op_without_lines ops) by_op) ([], []) xs) (same_by_op ops)
+    ∙ same_turns (item_step s (map op_without_lines ops) (labels_by_op ops)) (item_step s ops (labels_by_op ops)) (same_item s ops (labels_by_op ops)) ([], []) xs))
 
 -- operations that are the same but for lines
-pub same_outline : (s : Scope) (ops others : List Op) → map op_without_lines ops ≡ map op_without_lines others → (at : ℕ) (t : Option OutlineTree) → outlined_means s ops at t ≡ outlined_means s others at t
-same_outline s ops others e at None = refl
-same_outline s ops others e at (Some t) =
-    ap (λ r. r >>= λ o. Ok o.0) (sym (lineless s ops at t) ∙ ap (λ (os : List Op). outline_means s os at t) e ∙ lineless s others at t)
+pub same_outline : (s : Scope) (ops others : List Op) → map op_without_lines ops ≡ map op_without_lines others → (t : Option OutlineTree) → outlined_means s ops t ≡ outlined_means s others t
+same_outline s ops others e None = refl
+same_outline s ops others e (Some t) = sym (lineless s ops t) ∙ ap (λ (os : List Op). outline_means s os t) e ∙ lineless s others t

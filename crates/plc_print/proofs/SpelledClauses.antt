@@ -1,5 +1,6 @@
--- Each clause of an outline that is read is spelled by the tree that it was read from, and comes again at every place.
+-- Each clause of an outline that is read is spelled by the tree that it was read from, without places.
 use Rattle.std.proofs.Common.{◌≡◌, ◌==◌, ℕ, ◌+◌, Bool, true, false, Option, Some, None, IfSome, option_map, Result, Ok, Err, List, [], ◌∷◌, ◌++◌, map, length, slice_get, refl, sym, ap, ap₂, ◌∙◌, append_assoc, append-nil}
+use Rattle.std.proofs.lemmas.Simd.{map-map}
 use Rattle.std.proofs.lemmas.Option.{get_or_from_slice_get}
 use Rattle.plc_base.specs.Limits.{most}
 use Rattle.plc_base.specs.Names.{NameList, place_of}
@@ -7,7 +8,7 @@ use Rattle.plc_base.specs.declared.limits.What1.TheVariants as limits
 use Rattle.plc_lang.specs.Names.{name_at, field_name, auxiliary_name, value_name, local_name}
 use Rattle.plc_lang.specs.declared.syntax.File.{File}
 use Rattle.plc_lang.specs.declared.syntax.Local.{Local}
-use Rattle.plc_syntax.specs.Trees.{Text, PlaceTree, PlaceOf, TermTree, PlaceTerm, NullTerm, NumberTerm, MeTerm, NoneTerm, FlagTree, RetiredFlag, MarkedFlag, LiteralTree, FlagLiteral, NotLiteral, EqualityLiteral, BoundTree, NoBound, AllOf, ClauseTree, Claims}
+use Rattle.plc_syntax.specs.Trees.{Text, Placed, PlaceTree, PlaceOf, TermTree, PlaceTerm, NullTerm, NumberTerm, MeTerm, NoneTerm, FlagTree, RetiredFlag, MarkedFlag, LiteralTree, FlagLiteral, NotLiteral, EqualityLiteral, BoundTree, NoBound, AllOf, ClauseTree, Claims}
 use Rattle.plc_scope.specs.declared.fault.ParseFault.{ParseFault}
 use Rattle.plc_scope.specs.declared.fault.ParseFault.TheVariants as faults
 use Rattle.plc_scope.specs.declared.scope.Scope.{Scope}
@@ -16,7 +17,7 @@ use Rattle.plc_scope.specs.declared.binding.Binding.TheVariants.{Taken, Shared, 
 use Rattle.plc_scope.specs.Limits.{stands_at}
 use Rattle.plc_scope.specs.Scope.{◌>>=◌, known, if_fits, if_new, with_last}
 use Rattle.plc_scope.proofs.Finds.{made_is}
-use Rattle.plc_scope.proofs.Holds.{Has, next, weaker, unless, both_err}
+use Rattle.plc_scope.proofs.Holds.{Has, next, weaker, unless, if_ok, both_err}
 use Rattle.plc_logic.specs.declared.clause.Base.{Base}
 use Rattle.plc_logic.specs.declared.clause.Base.TheVariants as bases
 use Rattle.plc_logic.specs.declared.clause.Term.{Term}
@@ -27,39 +28,35 @@ use Rattle.plc_logic.specs.declared.clause.Literal.TheVariants.{Same, Retired, M
 use Rattle.plc_logic.specs.declared.clause.Clause.{Clause}
 use Rattle.plc_outparse.specs.declared.kind.Kind.{Kind}
 use Rattle.plc_outparse.specs.declared.kind.Kind.TheVariants as kinds
-use Rattle.plc_outparse.specs.Sizes.{term_size, literal_size, bound_size}
-use Rattle.plc_outparse.specs.Reach.{Reach, binding_kind, local_kind, kind_found, declared_kind, kind_or_bound, kind_of, as_base, base_at, as_term, as_pointer, as_field, as_pointer_field}
+use Rattle.plc_syntax.proofs.Unplaced.{unplaced_by, unplaced_place, unplaced_term, unplaced_flag, unplaced_literal, unplaced_bound, unplaced_clause}
+use Rattle.plc_outparse.specs.Reach.{Reach, binding_kind, local_kind, kind_found, declared_kind, kind_or_bound, kind_of, kind_at, as_base, base_at, as_term, as_pointer, as_field, as_pointer_field}
 use Rattle.plc_logic.specs.Sorts.{same_sort}
-use Rattle.plc_outparse.specs.Meaning.{in_turn, wanted_of, me_means, term_means, sort_place, if_same_sort, second_means, pointer_means, flag_means, literal_means, counted, literal_step, none_bound, if_free, bound_with, bound_means, reach, clause_means, clause_line_means}
-use Rattle.plc_print.specs.Outlines.{base_name, term_tree, pointer_place, flag_literal, literal_tree, bound_tree, claims_tree, clause_tree}
-use Rattle.plc_print.proofs.Steps.{within, after, Found, then_found, moved, if_found}
+use Rattle.plc_outparse.specs.Meaning.{in_turn, wanted_of, me_means, term_means, sort_place, if_same_sort, second_means, pointer_means, flag_means, literal_means, counted, literal_step, none_bound, if_free, bound_with, bound_means, reach, clause_means}
+use Rattle.plc_print.specs.Outlines.{bare, base_name, term_tree, pointer_place, flag_literal, literal_tree, bound_tree, claims_tree, clause_tree}
 use Rattle.plc_print.proofs.SpelledNames.{IsBound, Bound, Ends, from_number, number_named, place_found, fits_found, known_found}
 
 -- ---- parts that are added one by one
 
-module _ {X Y : Type 0} (E : Type 0) (spell : Y → X) (step : List Y × ℕ → X → Result (List Y × ℕ) ParseFault) where
-  -- a step adds one part, spelled so, after those before it, and adds it at every place
-  pub record OneMore (st : List Y × ℕ) (x : X) (t : List Y × ℕ) : Type 0 where
+module _ {X Z Y : Type 0} (E : Type 0) (bare_of : X → Z) (spell : Y → Z) (step : List Y → X → Result (List Y) ParseFault) where
+  -- a step adds one part, spelled so, after those before it
+  pub record OneMore (st : List Y) (x : X) (t : List Y) : Type 0 where
     pub added : Y
-    pub is : t.0 ≡ st.0 ++ added ∷ []
-    pub tree : E → spell added ≡ x
-    pub again : (at : ℕ) → (place : ℕ) × (step (st.0, at) x ≡ Ok (t.0, place))
+    pub is : t ≡ st ++ added ∷ []
+    pub tree : E → spell added ≡ bare_of x
 
   -- steps in turn do so
-  pub record ManyMore (st : List Y × ℕ) (xs : List X) (t : List Y × ℕ) : Type 0 where
+  pub record ManyMore (st : List Y) (xs : List X) (t : List Y) : Type 0 where
     pub added : List Y
-    pub is : t.0 ≡ st.0 ++ added
-    pub tree : E → map spell added ≡ xs
-    pub again : (at : ℕ) → (place : ℕ) × (in_turn step (st.0, at) xs ≡ Ok (t.0, place))
+    pub is : t ≡ st ++ added
+    pub tree : E → map spell added ≡ map bare_of xs
 
-  pub more_found : ((st : List Y × ℕ) (x : X) → Has (OneMore st x) (step st x)) → (st : List Y × ℕ) (xs : List X) → Has (ManyMore st xs) (in_turn step st xs)
-  more_found one st [] = record { added = []; is = sym (append-nil st.0); tree = λ e. refl; again = λ at. (at, refl) }
+  pub more_found : ((st : List Y) (x : X) → Has (OneMore st x) (step st x)) → (st : List Y) (xs : List X) → Has (ManyMore st xs) (in_turn step st xs)
+  more_found one st [] = record { added = []; is = sym (append-nil st); tree = λ e. refl }
   more_found one st (x ∷ xs) = next (OneMore st x) (ManyMore st (x ∷ xs)) (step st x) (λ t. in_turn step t xs) (one st x) (λ t f.
       weaker (ManyMore t xs) (ManyMore st (x ∷ xs)) (in_turn step t xs) (λ u g. record {
         added = f.added ∷ g.added;
-        is = g.is ∙ ap (λ (ys : List Y). ys ++ g.added) f.is ∙ append_assoc st.0 (f.added ∷ []) g.added;
-        tree = λ e. ap₂ (λ (y : X) (ys : List X). y ∷ ys) (f.tree e) (g.tree e);
-        again = λ at. let first = f.again at in let rest = g.again first.0 in (rest.0, after _ _ _ _ first.1 rest.1);
+        is = g.is ∙ ap (λ (ys : List Y). ys ++ g.added) f.is ∙ append_assoc st (f.added ∷ []) g.added;
+        tree = λ e. ap₂ (λ (y : Z) (ys : List Z). y ∷ ys) (f.tree e) (g.tree e);
       }) (more_found one t xs))
 
 -- ---- names
@@ -110,8 +107,8 @@ module _ (file : File) (s : Scope) (bound : Bound file s) where
     unfolding kind_of
     kind_is n ends = bound_or (KindIs ls quantified.names n) (place_of n quantified.names) (declared_kind s ls n) (λ i e. get_or_from_slice_get quantified.names i n [] (place_found n quantified.names i e)) (declared_is ls quantified.names n ends)
 
-    named_found : (n : Text) (at : ℕ) (o : Option Kind) → (Ends file s → IfSome o (KindIs ls quantified.names n)) → Has (Found (IsKind n) (λ a. known a o)) (known at o)
-    named_found n at o h = known_found file (Ends file s) (KindIs ls quantified.names n) o at h
+    named_found : (n : Placed Text) → Has (IsKind n.value) (kind_at here n)
+    named_found n = known_found file (Ends file s) (KindIs ls quantified.names n.value) (kind_of here n.value) n.at (kind_is n.value)
 
     -- ---- terms
 
@@ -126,78 +123,76 @@ module _ (file : File) (s : Scope) (bound : Bound file s) where
     base_is n (kinds.Value g v) h = tt
     base_is n kinds.NoValue h = tt
 
-    base_found : (n : Text) (at : ℕ) → Has (Found (IsBase n) (base_at here n)) (base_at here n at)
+    base_found : (n : Placed Text) → Has (IsBase n.value) (base_at here n)
     unfolding base_at
-    base_found n at = then_found (IsKind n) (IsBase n) (λ a. known a (kind_of here n)) (λ k a. if_fits a (as_base k)) at (named_found n at (kind_of here n) (kind_is n))
-        (λ k h. fits_found file (Ends file s) (λ b. base_name file ls quantified.names b ≡ n) (as_base k) at (λ e. base_is n k (h e)))
+    base_found n = next (IsKind n.value) (IsBase n.value) (kind_at here n) _ (named_found n)
+        (λ k h. fits_found file (Ends file s) (λ b. base_name file ls quantified.names b ≡ n.value) (as_base k) n.at (λ e. base_is n.value k (h e)))
 
     -- what is wanted of a place is spelled so, alone or after a dot
     wanted_found : {A : Type 0} (alone : Kind → Option A) (field : Base → Kind → Option A) (Spells : PlaceTree → A → Type 0)
-        → ((n : Text) (k : Kind) → KindIs ls quantified.names n k → IfSome (alone k) (Spells (PlaceOf n None)))
-        → ((m n : Text) (b : Base) (k : Kind) → base_name file ls quantified.names b ≡ m → KindIs ls quantified.names n k → IfSome (field b k) (Spells (PlaceOf m (Some n))))
-        → (at : ℕ) (p : PlaceTree) → Has (Found (λ x. Ends file s → Spells p x) (λ a. wanted_of here alone field a p)) (wanted_of here alone field at p)
-    wanted_found alone field Spells one other at (PlaceOf n None) =
-        then_found (IsKind n) (λ x. Ends file s → Spells (PlaceOf n None) x) (λ a. known a (kind_of here n)) (λ k a. if_fits a (alone k)) at (named_found n at (kind_of here n) (kind_is n))
-        (λ k h. fits_found file (Ends file s) (Spells (PlaceOf n None)) (alone k) at (λ e. one n k (h e)))
-    wanted_found alone field Spells one other at (PlaceOf n (Some f)) =
-        then_found (IsBase n) (λ x. Ends file s → Spells (PlaceOf n (Some f)) x) (base_at here n) (λ b a. known (a + 2) (kind_of here f) >>= λ k. if_fits (a + 2) (field b k)) at (base_found n at) (λ b h.
-        then_found (IsKind f) (λ x. Ends file s → Spells (PlaceOf n (Some f)) x) (λ a. known (a + 2) (kind_of here f)) (λ k a. if_fits (a + 2) (field b k)) at
-        (moved (IsKind f) (λ a. known a (kind_of here f)) (λ a. a + 2) at (named_found f (at + 2) (kind_of here f) (kind_is f))) (λ k g.
-        moved (λ x. Ends file s → Spells (PlaceOf n (Some f)) x) (λ a. if_fits a (field b k)) (λ a. a + 2) at
-        (fits_found file (Ends file s) (Spells (PlaceOf n (Some f))) (field b k) (at + 2) (λ e. other n f b k (h e) (g e)))))
+        → ((n : Text) (k : Kind) → KindIs ls quantified.names n k → IfSome (alone k) (Spells (PlaceOf (bare n) None)))
+        → ((m n : Text) (b : Base) (k : Kind) → base_name file ls quantified.names b ≡ m → KindIs ls quantified.names n k → IfSome (field b k) (Spells (PlaceOf (bare m) (Some (bare n)))))
+        → (p : PlaceTree) → Has (λ x. Ends file s → Spells (unplaced_place p) x) (wanted_of here alone field p)
+    wanted_found alone field Spells one other (PlaceOf n None) =
+        next (IsKind n.value) _ (kind_at here n) _ (named_found n)
+        (λ k h. fits_found file (Ends file s) (Spells (PlaceOf (bare n.value) None)) (alone k) n.at (λ e. one n.value k (h e)))
+    wanted_found alone field Spells one other (PlaceOf n (Some f)) =
+        next (IsBase n.value) _ (base_at here n) _ (base_found n) (λ b h.
+        next (IsKind f.value) _ (kind_at here f) _ (named_found f) (λ k g.
+        fits_found file (Ends file s) (Spells (PlaceOf (bare n.value) (Some (bare f.value)))) (field b k) f.at (λ e. other n.value f.value b k (h e) (g e))))
 
     abbrev SpellsTerm : TermTree → Term × Sort → Type 0
     SpellsTerm t x = term_tree file ls quantified.names x.0 ≡ t
 
     abbrev IsTerm : TermTree → Term × Sort → Type 0
-    IsTerm t x = Ends file s → SpellsTerm t x
+    IsTerm t x = Ends file s → SpellsTerm (unplaced_term t) x
 
-    alone_is : (n : Text) (k : Kind) → KindIs ls quantified.names n k → IfSome (as_term k) (SpellsTerm (PlaceTerm (PlaceOf n None)))
-    alone_is n (kinds.Node (bases.Shared i)) h = ap (λ (m : Text). PlaceTerm (PlaceOf m None)) h
-    alone_is n (kinds.Node (bases.Local i)) h = ap (λ (m : Text). PlaceTerm (PlaceOf m None)) h
-    alone_is n (kinds.Node (bases.Bound i)) h = ap (λ (m : Text). PlaceTerm (PlaceOf m None)) h
-    alone_is n (kinds.Data i) h = ap (λ (m : Text). PlaceTerm (PlaceOf m None)) h
+    alone_is : (n : Text) (k : Kind) → KindIs ls quantified.names n k → IfSome (as_term k) (SpellsTerm (PlaceTerm (PlaceOf (bare n) None)))
+    alone_is n (kinds.Node (bases.Shared i)) h = ap (λ (m : Text). PlaceTerm (PlaceOf (bare m) None)) h
+    alone_is n (kinds.Node (bases.Local i)) h = ap (λ (m : Text). PlaceTerm (PlaceOf (bare m) None)) h
+    alone_is n (kinds.Node (bases.Bound i)) h = ap (λ (m : Text). PlaceTerm (PlaceOf (bare m) None)) h
+    alone_is n (kinds.Data i) h = ap (λ (m : Text). PlaceTerm (PlaceOf (bare m) None)) h
     alone_is n (kinds.Field f t) h = tt
     alone_is n (kinds.Auxiliary g t) h = tt
-    alone_is n (kinds.Value g v) h = ap (λ (m : Text). PlaceTerm (PlaceOf m None)) h
+    alone_is n (kinds.Value g v) h = ap (λ (m : Text). PlaceTerm (PlaceOf (bare m) None)) h
     alone_is n kinds.NoValue h = tt
 
-    field_is : (m n : Text) (b : Base) (k : Kind) → base_name file ls quantified.names b ≡ m → KindIs ls quantified.names n k → IfSome (as_field b k) (SpellsTerm (PlaceTerm (PlaceOf m (Some n))))
+    field_is : (m n : Text) (b : Base) (k : Kind) → base_name file ls quantified.names b ≡ m → KindIs ls quantified.names n k → IfSome (as_field b k) (SpellsTerm (PlaceTerm (PlaceOf (bare m) (Some (bare n)))))
     field_is m n b (kinds.Node c) h g = tt
     field_is m n b (kinds.Data i) h g = tt
-    field_is m n b (kinds.Field f t) h g = ap₂ (λ (x y : Text). PlaceTerm (PlaceOf x (Some y))) h g
-    field_is m n b (kinds.Auxiliary f t) h g = ap₂ (λ (x y : Text). PlaceTerm (PlaceOf x (Some y))) h g
+    field_is m n b (kinds.Field f t) h g = ap₂ (λ (x y : Text). PlaceTerm (PlaceOf (bare x) (Some (bare y)))) h g
+    field_is m n b (kinds.Auxiliary f t) h g = ap₂ (λ (x y : Text). PlaceTerm (PlaceOf (bare x) (Some (bare y)))) h g
     field_is m n b (kinds.Value f v) h g = tt
     field_is m n b kinds.NoValue h g = tt
 
-    me_found : (b : Bool) (at : ℕ) → Has (Found (IsTerm MeTerm) (me_means b)) (me_means b at)
-    me_found true at = record { named = λ e. refl; again = λ a. refl }
+    me_found : (b : Bool) (at : ℕ) → Has (IsTerm (MeTerm at)) (me_means b at)
+    me_found true at = λ e. refl
     me_found false at = tt
 
-    term_found : (at : ℕ) (t : TermTree) → Has (Found (IsTerm t) (λ a. term_means here a t)) (term_means here at t)
+    term_found : (t : TermTree) → Has (IsTerm t) (term_means here t)
     unfolding term_means
-    term_found at (PlaceTerm p) = wanted_found as_term as_field (λ q x. SpellsTerm (PlaceTerm q) x) alone_is field_is at p
-    term_found at NullTerm = record { named = λ e. refl; again = λ a. refl }
-    term_found at (NumberTerm n) = record { named = λ e. refl; again = λ a. refl }
-    term_found at MeTerm = me_found in_operation at
-    term_found at NoneTerm = record { named = λ e. refl; again = λ a. refl }
+    term_found (PlaceTerm p) = wanted_found as_term as_field (λ q x. SpellsTerm (PlaceTerm q) x) alone_is field_is p
+    term_found (NullTerm at) = λ e. refl
+    term_found (NumberTerm n) = λ e. refl
+    term_found (MeTerm at) = me_found in_operation at
+    term_found (NoneTerm at) = λ e. refl
 
     abbrev IsSide : TermTree → Term → Type 0
-    IsSide t x = Ends file s → term_tree file ls quantified.names x ≡ t
+    IsSide t x = Ends file s → term_tree file ls quantified.names x ≡ unplaced_term t
 
-    second_found : (wanted : Sort) (at : ℕ) (t : TermTree) → Has (Found (IsSide t) (λ a. second_means here wanted a t)) (second_means here wanted at t)
+    second_found : (wanted : Sort) (t : TermTree) → Has (IsSide t) (second_means here wanted t)
     unfolding second_means
-    second_found wanted at t = then_found (IsTerm t) (IsSide t) (λ a. term_means here a t) (λ x a. if_same_sort wanted (sort_place a t) x) at (term_found at t)
-        (λ x h. if_found (IsSide t) (same_sort x.1 wanted) x.0 (λ a. sort_place a t) at h)
+    second_found wanted t = next (IsTerm t) (IsSide t) (term_means here t) _ (term_found t)
+        (λ x h. if_ok (IsSide t) (same_sort x.1 wanted) x.0 (faults.WrongSort (sort_place t)) h)
 
     -- ---- places of pointers
 
     abbrev SpellsPointer : PlaceTree → Term → Type 0
     SpellsPointer p t = pointer_place file ls quantified.names t ≡ p
 
-    alone_points : (n : Text) (k : Kind) → KindIs ls quantified.names n k → IfSome (as_pointer k) (SpellsPointer (PlaceOf n None))
-    alone_points n (kinds.Node (bases.Shared i)) h = ap (λ (m : Text). PlaceOf m None) h
-    alone_points n (kinds.Node (bases.Local i)) h = ap (λ (m : Text). PlaceOf m None) h
+    alone_points : (n : Text) (k : Kind) → KindIs ls quantified.names n k → IfSome (as_pointer k) (SpellsPointer (PlaceOf (bare n) None))
+    alone_points n (kinds.Node (bases.Shared i)) h = ap (λ (m : Text). PlaceOf (bare m) None) h
+    alone_points n (kinds.Node (bases.Local i)) h = ap (λ (m : Text). PlaceOf (bare m) None) h
     alone_points n (kinds.Node (bases.Bound i)) h = tt
     alone_points n (kinds.Data i) h = tt
     alone_points n (kinds.Field f t) h = tt
@@ -205,10 +200,10 @@ module _ (file : File) (s : Scope) (bound : Bound file s) where
     alone_points n (kinds.Value g v) h = tt
     alone_points n kinds.NoValue h = tt
 
-    field_points : (m n : Text) (b : Base) (k : Kind) → base_name file ls quantified.names b ≡ m → KindIs ls quantified.names n k → IfSome (as_pointer_field b k) (SpellsPointer (PlaceOf m (Some n)))
+    field_points : (m n : Text) (b : Base) (k : Kind) → base_name file ls quantified.names b ≡ m → KindIs ls quantified.names n k → IfSome (as_pointer_field b k) (SpellsPointer (PlaceOf (bare m) (Some (bare n))))
     field_points m n b (kinds.Node c) h g = tt
     field_points m n b (kinds.Data i) h g = tt
-    field_points m n b (kinds.Field f sorts.Node) h g = ap₂ (λ (x y : Text). PlaceOf x (Some y)) h g
+    field_points m n b (kinds.Field f sorts.Node) h g = ap₂ (λ (x y : Text). PlaceOf (bare x) (Some (bare y))) h g
     field_points m n b (kinds.Field f sorts.Number) h g = tt
     field_points m n b (kinds.Field f sorts.Thread) h g = tt
     field_points m n b (kinds.Field f (sorts.Value v)) h g = tt
@@ -218,96 +213,87 @@ module _ (file : File) (s : Scope) (bound : Bound file s) where
     field_points m n b kinds.NoValue h g = tt
 
     abbrev IsPointer : PlaceTree → Term → Type 0
-    IsPointer p t = Ends file s → SpellsPointer p t
+    IsPointer p t = Ends file s → SpellsPointer (unplaced_place p) t
 
-    pointer_found : (at : ℕ) (p : PlaceTree) → Has (Found (IsPointer p) (λ a. pointer_means here a p)) (pointer_means here at p)
-    pointer_found at p = wanted_found as_pointer as_pointer_field SpellsPointer alone_points field_points at p
+    pointer_found : (p : PlaceTree) → Has (IsPointer p) (pointer_means here p)
+    pointer_found p = wanted_found as_pointer as_pointer_field SpellsPointer alone_points field_points p
 
     -- ---- literals
 
     abbrev IsLiteral : LiteralTree → Literal → Type 0
-    IsLiteral l x = Ends file s → literal_tree file ls quantified.names x ≡ l
+    IsLiteral l x = Ends file s → literal_tree file ls quantified.names x ≡ unplaced_literal l
 
-    flag_found : (is_so : Bool) (at : ℕ) (f : FlagTree) → Has (Found (IsLiteral (flag_literal file ls quantified.names f is_so)) (λ a. flag_means here is_so a f)) (flag_means here is_so at f)
-    flag_found is_so at (RetiredFlag n) = then_found (IsBase n) (IsLiteral (flag_literal file ls quantified.names (RetiredFlag n) is_so)) (λ a. base_at here n (a + 2)) (λ b a. Ok (Retired b is_so)) at (moved (IsBase n) (base_at here n) (λ a. a + 2) at (base_found n (at + 2)))
-        (λ b h. record { named = λ e. ap (λ (m : Text). flag_literal file ls quantified.names (RetiredFlag m) is_so) (h e); again = λ a. refl })
-    flag_found is_so at (MarkedFlag p) = then_found (IsPointer p) (IsLiteral (flag_literal file ls quantified.names (MarkedFlag p) is_so)) (λ a. pointer_means here (a + 2) p) (λ t a. Ok (Marked t is_so)) at (moved (IsPointer p) (λ a. pointer_means here a p) (λ a. a + 2) at (pointer_found (at + 2) p))
-        (λ t h. record { named = λ e. ap (λ (q : PlaceTree). flag_literal file ls quantified.names (MarkedFlag q) is_so) (h e); again = λ a. refl })
+    abbrev IsFlag : Bool → FlagTree → Literal → Type 0
+    IsFlag is_so f x = Ends file s → literal_tree file ls quantified.names x ≡ flag_literal file ls quantified.names (unplaced_flag f) is_so
 
-    literal_found : (at : ℕ) (l : LiteralTree) → Has (Found (IsLiteral l) (λ a. literal_means here a l)) (literal_means here at l)
+    flag_found : (is_so : Bool) (f : FlagTree) → Has (IsFlag is_so f) (flag_means here is_so f)
+    flag_found is_so (RetiredFlag n) = next (IsBase n.value) (IsFlag is_so (RetiredFlag n)) (base_at here n) _ (base_found n)
+        (λ b h e. ap (λ (m : Text). flag_literal file ls quantified.names (RetiredFlag (bare m)) is_so) (h e))
+    flag_found is_so (MarkedFlag p) = next (IsPointer p) (IsFlag is_so (MarkedFlag p)) (pointer_means here p) _ (pointer_found p)
+        (λ t h e. ap (λ (q : PlaceTree). flag_literal file ls quantified.names (MarkedFlag q) is_so) (h e))
+
+    literal_found : (l : LiteralTree) → Has (IsLiteral l) (literal_means here l)
     unfolding literal_means
-    literal_found at (FlagLiteral f) = flag_found true at f
-    literal_found at (NotLiteral f) = moved (IsLiteral (NotLiteral f)) (λ a. flag_means here false a f) (λ a. a + 1) at (flag_found false (at + 1) f)
-    literal_found at (EqualityLiteral t is_equal u) =
-        then_found (IsTerm t) (IsLiteral (EqualityLiteral t is_equal u)) (λ a. term_means here a t) (λ x a. second_means here x.1 (a + term_size t + 1) u >>= λ y. Ok (Same x.0 y is_equal)) at (term_found at t) (λ x h.
-        then_found (IsSide u) (IsLiteral (EqualityLiteral t is_equal u)) (λ a. second_means here x.1 (a + term_size t + 1) u) (λ y a. Ok (Same x.0 y is_equal)) at
-        (moved (IsSide u) (λ a. second_means here x.1 a u) (λ a. a + term_size t + 1) at (second_found x.1 (at + term_size t + 1) u)) (λ y g.
-        record { named = λ e. ap₂ (λ (v w : TermTree). EqualityLiteral v is_equal w) (h e) (g e); again = λ a. refl }))
+    literal_found (FlagLiteral f) = flag_found true f
+    literal_found (NotLiteral f) = flag_found false f
+    literal_found (EqualityLiteral t is_equal u) =
+        next (IsTerm t) (IsLiteral (EqualityLiteral t is_equal u)) (term_means here t) _ (term_found t) (λ x h.
+        next (IsSide u) (IsLiteral (EqualityLiteral t is_equal u)) (second_means here x.1 u) _ (second_found x.1 u) (λ y g e.
+        ap₂ (λ (v w : TermTree). EqualityLiteral v is_equal w) (h e) (g e)))
 
-    counted_found : (n at : ℕ) (l : LiteralTree) (m : Result Literal ParseFault) → Has (Found (IsLiteral l) (λ a. literal_means here a l)) m → Has (Found (IsLiteral l) (λ a. counted n a (literal_means here a l))) (counted n at m)
-    counted_found n at l (Ok x) h = unless (Found (IsLiteral l) (λ a. counted n a (literal_means here a l))) (n == most limits.Literals) (faults.Limit limits.Literals (most limits.Literals + 1)) (Ok x) (λ below.
-        record { named = h.named; again = λ a. ap (counted n a) (h.again a) ∙ within (n == most limits.Literals) (faults.Limit limits.Literals (most limits.Literals + 1)) (Ok x) (Ok x) below refl })
-    counted_found n at l (Err e) h = both_err (Found (IsLiteral l) (λ a. counted n a (literal_means here a l))) (stands_at at e) (n == most limits.Literals) e (faults.Limit limits.Literals (most limits.Literals + 1)) e
+    counted_found : (n at : ℕ) (l : LiteralTree) (m : Result Literal ParseFault) → Has (IsLiteral l) m → Has (IsLiteral l) (counted n at m)
+    counted_found n at l (Ok x) h = unless (IsLiteral l) (n == most limits.Literals) (faults.Limit limits.Literals (most limits.Literals + 1)) (Ok x) (λ below. h)
+    counted_found n at l (Err e) h = both_err (IsLiteral l) (stands_at at e) (n == most limits.Literals) e (faults.Limit limits.Literals (most limits.Literals + 1)) e
 
-    step_found : (st : List Literal × ℕ) (l : LiteralTree) → Has (OneMore (Ends file s) (literal_tree file ls quantified.names) (literal_step here) st l) (literal_step here st l)
+    abbrev spelled_literal : Literal → Placed LiteralTree
+    spelled_literal x = bare (literal_tree file ls quantified.names x)
+
+    step_found : (st : List Literal) (l : Placed LiteralTree) → Has (OneMore (Ends file s) (unplaced_by unplaced_literal) spelled_literal (literal_step here) st l) (literal_step here st l)
     unfolding literal_step
     step_found st l =
-        next (Found (IsLiteral l) (λ a. counted (length st.0) a (literal_means here a l))) (OneMore (Ends file s) (literal_tree file ls quantified.names) (literal_step here) st l) (counted (length st.0) (st.1 + 1) (literal_means here (st.1 + 1) l)) _
-        (counted_found (length st.0) (st.1 + 1) l (literal_means here (st.1 + 1) l) (literal_found (st.1 + 1) l)) (λ x h.
-        record { added = x; is = refl; tree = h.named; again = λ a. (a + 1 + literal_size l, after _ _ _ _ (h.again (a + 1)) refl) })
+        next (IsLiteral l.value) _ (counted (length st) l.at (literal_means here l.value)) _ (counted_found (length st) l.at l.value (literal_means here l.value) (literal_found l.value)) (λ x h.
+        record { added = x; is = refl; tree = λ e. ap (λ (t : LiteralTree). bare t) (h e) })
 
-    literals_found : (st : List Literal × ℕ) (others : List LiteralTree) → Has (ManyMore (Ends file s) (literal_tree file ls quantified.names) (literal_step here) st others) (in_turn (literal_step here) st others)
-    literals_found st others = more_found (Ends file s) (literal_tree file ls quantified.names) (literal_step here) step_found st others
+    literals_found : (st : List Literal) (others : List (Placed LiteralTree)) → Has (ManyMore (Ends file s) (unplaced_by unplaced_literal) spelled_literal (literal_step here) st others) (in_turn (literal_step here) st others)
+    literals_found st others = more_found (Ends file s) (unplaced_by unplaced_literal) spelled_literal (literal_step here) step_found st others
 
   -- ---- clauses
 
   module _ (ls : List Local) where
-    free_found : (q : NameList) (name : Text) (at : ℕ) (k : Option Kind) (o : Option ℕ) → Has (Found (λ r. r ≡ with_last q name) (λ a. if_free a k (if_new o a (with_last q name)))) (if_free at k (if_new o at (with_last q name)))
-    free_found q name at None None = record { named = refl; again = λ a. refl }
+    free_found : (q : NameList) (name : Text) (at : ℕ) (k : Option Kind) (o : Option ℕ) → Has (λ r. r ≡ with_last q name) (if_free at k (if_new o at (with_last q name)))
+    free_found q name at None None = refl
     free_found q name at None (Some i) = tt
     free_found q name at (Some k) o = tt
 
-    with_found : (q : NameList) (name : Text) (at : ℕ) → Has (Found (λ r. r ≡ with_last q name) (λ a. bound_with s ls q a name)) (bound_with s ls q at name)
+    with_found : (q : NameList) (name : Placed Text) → Has (λ r. r ≡ with_last q name.value) (bound_with s ls q name)
     unfolding bound_with
-    with_found q name at = free_found q name at (declared_kind s ls name) (place_of name q.names)
+    with_found q name = free_found q name.value name.at (declared_kind s ls name.value) (place_of name.value q.names)
 
     -- no number names a quantified name, so its text is kept
     abbrev AreBound : BoundTree → NameList → Type 0
-    AreBound b q = bound_tree q.names ≡ b
+    AreBound b q = bound_tree q.names ≡ unplaced_bound b
 
-    quantified_found : (at : ℕ) (b : BoundTree) → Has (Found (AreBound b) (λ a. bound_means s ls a b)) (bound_means s ls at b)
+    quantified_found : (b : BoundTree) → Has (AreBound b) (bound_means s ls b)
     unfolding bound_means
-    quantified_found at NoBound = record { named = refl; again = λ a. refl }
-    quantified_found at (AllOf n None) =
-        then_found (λ q. q ≡ with_last none_bound n) (AreBound (AllOf n None)) (λ a. bound_with s ls none_bound (a + 1) n) (λ q a. Ok q) at
-        (moved (λ q. q ≡ with_last none_bound n) (λ a. bound_with s ls none_bound a n) (λ a. a + 1) at (with_found none_bound n (at + 1))) (λ q h.
-        record { named = ap (λ (r : NameList). bound_tree r.names) h; again = λ a. refl })
-    quantified_found at (AllOf n (Some m)) =
-        then_found (λ q. q ≡ with_last none_bound n) (AreBound (AllOf n (Some m))) (λ a. bound_with s ls none_bound (a + 1) n) (λ q a. bound_with s ls q (a + 3) m) at
-        (moved (λ q. q ≡ with_last none_bound n) (λ a. bound_with s ls none_bound a n) (λ a. a + 1) at (with_found none_bound n (at + 1))) (λ q h.
-        weaker (Found (λ r. r ≡ with_last q m) (λ a. bound_with s ls q (a + 3) m)) (Found (AreBound (AllOf n (Some m))) (λ a. bound_with s ls q (a + 3) m)) (bound_with s ls q (at + 3) m) (λ r f.
-        record { named = ap (λ (t : NameList). bound_tree t.names) (f.named ∙ ap (λ (t : NameList). with_last t m) h); again = f.again })
-        (moved (λ r. r ≡ with_last q m) (λ a. bound_with s ls q a m) (λ a. a + 3) at (with_found q m (at + 3))))
+    quantified_found NoBound = refl
+    quantified_found (AllOf n None) =
+        next (λ q. q ≡ with_last none_bound n.value) (AreBound (AllOf n None)) (bound_with s ls none_bound n) _ (with_found none_bound n) (λ q h. ap (λ (r : NameList). bound_tree r.names) h)
+    quantified_found (AllOf n (Some m)) =
+        next (λ q. q ≡ with_last none_bound n.value) (AreBound (AllOf n (Some m))) (bound_with s ls none_bound n) _ (with_found none_bound n) (λ q h.
+        weaker (λ r. r ≡ with_last q m.value) (AreBound (AllOf n (Some m))) (bound_with s ls q m) (λ r f.
+        ap (λ (t : NameList). bound_tree t.names) (f ∙ ap (λ (t : NameList). with_last t m.value) h)) (with_found q m))
 
-    -- the clause is spelled by the tree, and is the same at each place, by which the place after it goes
-    pub record ClauseRead (means : ℕ → Result (Clause × ℕ) ParseFault) (c : ClauseTree) (k : Clause × ℕ) : Type 0 where
-      pub tree : Ends file s → clause_tree file ls k.0 ≡ c
-      pub again : (at : ℕ) → (place : ℕ) × (means at ≡ Ok (k.0, place))
+    -- the clause is spelled by the tree
+    abbrev pub IsClause : ClauseTree → Clause → Type 0
+    IsClause c k = Ends file s → clause_tree file ls k ≡ unplaced_clause c
 
-    module _ (in_operation : Bool) where
-      clause_found : (at : ℕ) (c : ClauseTree) → Has (ClauseRead (λ a. clause_means s ls in_operation a c) c) (clause_means s ls in_operation at c)
-      unfolding clause_means
-      clause_found at (Claims b l others) =
-          next (Found (AreBound b) (λ a. bound_means s ls a b)) _ (bound_means s ls at b) _ (quantified_found at b) (λ q f.
-          next (Found (IsLiteral ls in_operation q l) (λ a. literal_means (reach s ls in_operation q) a l)) _ (literal_means (reach s ls in_operation q) (at + bound_size b) l) _ (literal_found ls in_operation q (at + bound_size b) l) (λ x g.
-          next (ManyMore (Ends file s) (literal_tree file ls q.names) (literal_step (reach s ls in_operation q)) (x ∷ [], at + bound_size b + literal_size l) others) _
-          (in_turn (literal_step (reach s ls in_operation q)) (x ∷ [], at + bound_size b + literal_size l) others) _ (literals_found ls in_operation q (x ∷ [], at + bound_size b + literal_size l) others) (λ all h.
-          record {
-            tree = λ e. ap (λ (xs : List Literal). claims_tree (bound_tree q.names) (map (literal_tree file ls q.names) xs)) h.is ∙ rw (f.named, g.named e, h.tree e) refl;
-            again = λ a. let rest = h.again (a + bound_size b + literal_size l) in (rest.0, after _ _ _ _ (f.again a) (after _ _ _ _ (g.again (a + bound_size b)) (after _ _ _ _ rest.1 refl)));
-          })))
-
-      pub line_found : (at : ℕ) (c : ClauseTree) → Has (ClauseRead (λ a. clause_line_means s ls in_operation a c) c) (clause_line_means s ls in_operation at c)
-      unfolding clause_line_means
-      line_found at c = next (ClauseRead (λ a. clause_means s ls in_operation a c) c) _ (clause_means s ls in_operation at c) _ (clause_found at c) (λ k h.
-          record { tree = h.tree; again = λ a. let one = h.again a in (one.0 + 1, after _ _ _ _ one.1 refl) })
+    pub clause_found : (in_operation : Bool) (c : ClauseTree) → Has (IsClause c) (clause_means s ls in_operation c)
+    unfolding clause_means
+    clause_found in_operation (Claims b l others) =
+        next (AreBound b) _ (bound_means s ls b) _ (quantified_found b) (λ q f.
+        next (IsLiteral ls in_operation q l) _ (literal_means (reach s ls in_operation q) l) _ (literal_found ls in_operation q l) (λ x g.
+        next (ManyMore (Ends file s) (unplaced_by unplaced_literal) (spelled_literal ls in_operation q) (literal_step (reach s ls in_operation q)) (x ∷ []) others) _
+        (in_turn (literal_step (reach s ls in_operation q)) (x ∷ []) others) _ (literals_found ls in_operation q (x ∷ []) others) (λ all h e.
+        ap (λ (xs : List Literal). claims_tree (bound_tree q.names) (map (literal_tree file ls q.names) xs)) h.is
+        ∙ ap (λ (ys : List (Placed LiteralTree)). Claims (bound_tree q.names) (literal_tree file ls q.names x) ys) (map-map bare (literal_tree file ls q.names) h.added)
+        ∙ rw (f, g e, h.tree e) refl)))

@@ -6,7 +6,7 @@ use Rattle.plc_lang.specs.declared.syntax.File.{File}
 use Rattle.plc_lang.specs.declared.syntax.Field.{Field}
 use Rattle.plc_lang.specs.declared.syntax.Func.{Func}
 use Rattle.plc_lang.specs.declared.syntax.Ghost.{Ghost}
-use Rattle.plc_syntax.specs.Trees.{Text, FieldTree, PointerField as PointerFieldTree, DataField as DataFieldTree, FunctionTree, Declares as FunctionDeclares, GhostTree, Auxiliary as AuxiliaryTree, OneOf, OfThreads}
+use Rattle.plc_syntax.specs.Trees.{Text, Placed, FieldTree, PointerField as PointerFieldTree, DataField as DataFieldTree, FunctionTree, Declares as FunctionDeclares, GhostTree, Auxiliary as AuxiliaryTree, OneOf, OfThreads}
 use Rattle.plc_scope.specs.declared.fault.ParseFault.{ParseFault}
 use Rattle.plc_scope.specs.declared.scope.Scope.{Scope}
 use Rattle.plc_scope.specs.declared.binding.Binding.TheVariants.{Shared, PointerField, DataField, Function, Auxiliary, Value}
@@ -15,7 +15,8 @@ use Rattle.plc_parse.specs.Meaning.{field_means, shared_means, function_means, v
 use Rattle.plc_scope.proofs.Holds.{Has, next, unless}
 use Rattle.plc_print.specs.Canonical.{declaration_tree, ghost_kind}
 use Rattle.plc_lang.specs.Names.{name_at, values_of}
-use Rattle.plc_print.proofs.Steps.{Found}
+use Rattle.plc_syntax.proofs.Unplaced.{unplaced, unplaced_names, unplaced_field, unplaced_function, unplaced_ghost}
+use Rattle.plc_print.specs.Outlines.{bare}
 use Rattle.plc_print.proofs.SpelledNames.{Ends, onward}
 use Rattle.plc_print.proofs.GrowingScopes.{Goes, goes_nowhere, goes_on, ends_before, Declares, declared_found, goes_by, declared_name}
 
@@ -47,20 +48,20 @@ none_spelled file spell s = record { goes = goes_nowhere file s; locals = refl; 
 
 -- ---- declarations of one kind in order
 
-module _ (file : File) (X Y : Type 0) (means : Scope → ℕ → ℕ → X → Result (Y × Scope × ℕ) ParseFault) (spell : Y → X) (There : ℕ → Y → Type 0) where
+module _ (file : File) (X Y : Type 0) (means : Scope → ℕ → X → Result (Y × Scope) ParseFault) (bare_of : X → X) (spell : Y → X) (There : ℕ → Y → Type 0) where
   -- one that the file has in its place
-  abbrev pub OneRead : Scope → ℕ → X → Y × Scope × ℕ → Type 0
-  OneRead s n x r = There n r.0 → Spelled file spell s x r.0 r.1
+  abbrev pub OneRead : Scope → ℕ → X → Y × Scope → Type 0
+  OneRead s n x r = There n r.0 → Spelled file spell s (bare_of x) r.0 r.1
 
-  abbrev pub ManyRead : Scope → ℕ → List X → List Y × Scope × ℕ → Type 0
-  ManyRead s n xs r = AllThere There n r.0 → Spelled file (map spell) s xs r.0 r.1
+  abbrev pub ManyRead : Scope → ℕ → List X → List Y × Scope → Type 0
+  ManyRead s n xs r = AllThere There n r.0 → Spelled file (map spell) s (map bare_of xs) r.0 r.1
 
-  pub listed_found : ((s : Scope) (n at : ℕ) (x : X) → Has (OneRead s n x) (means s n at x)) → (s : Scope) (n at : ℕ) (xs : List X) → Has (ManyRead s n xs) (listed means s n at xs)
-  listed_found one s n at [] = λ there. none_spelled file spell s
-  listed_found one s n at (x ∷ xs) =
-      next (OneRead s n x) (ManyRead s n (x ∷ xs)) (means s n at x) _ (one s n at x) (λ first f.
-      next (ManyRead first.1 (n + 1) xs) (ManyRead s n (x ∷ xs)) (listed means first.1 (n + 1) first.2 xs) _ (listed_found one first.1 (n + 1) first.2 xs) (λ others g there.
-      one_then file spell s first.1 others.1 x xs first.0 others.0 (f (first_there There n first.0 others.0 there)) (g (others_there There n first.0 others.0 there))))
+  pub listed_found : ((s : Scope) (n : ℕ) (x : X) → Has (OneRead s n x) (means s n x)) → (s : Scope) (n : ℕ) (xs : List X) → Has (ManyRead s n xs) (listed means s n xs)
+  listed_found one s n [] = λ there. none_spelled file spell s
+  listed_found one s n (x ∷ xs) =
+      next (OneRead s n x) (ManyRead s n (x ∷ xs)) (means s n x) _ (one s n x) (λ first f.
+      next (ManyRead first.1 (n + 1) xs) (ManyRead s n (x ∷ xs)) (listed means first.1 (n + 1) xs) _ (listed_found one first.1 (n + 1) xs) (λ others g there.
+      one_then file spell s first.1 others.1 (bare_of x) (map bare_of xs) first.0 others.0 (f (first_there There n first.0 others.0 there)) (g (others_there There n first.0 others.0 there))))
 
 module _ (file : File) where
   -- ---- fields, shared pointers and functions
@@ -71,35 +72,35 @@ module _ (file : File) where
   abbrev pub field_spelled : Field → FieldTree
   field_spelled f = declaration_tree (name_at file f.name) f.pointer
 
-  abbrev OneField : Scope → ℕ → FieldTree → Field × Scope × ℕ → Type 0
-  OneField = OneRead file FieldTree Field field_means field_spelled FieldThere
+  abbrev OneField : Scope → ℕ → FieldTree → Field × Scope → Type 0
+  OneField = OneRead file FieldTree Field field_means unplaced_field field_spelled FieldThere
 
-  pub field_found : (s : Scope) (n at : ℕ) (f : FieldTree) → Has (OneField s n f) (field_means s n at f)
-  field_found s n at (PointerFieldTree name) = unless (OneField s n (PointerFieldTree name)) (n == most limits.Fields) _ _ (λ less.
-      next (Found (Declares file name (PointerField (record { 0 = n })) s) (λ a. declared s name a (PointerField (record { 0 = n })))) _ (declared s name (at + 1) (PointerField (record { 0 = n }))) _ (declared_found file s name (at + 1) (PointerField (record { 0 = n }))) (λ t d there. record {
-        goes = goes_by file s t name (PointerField (record { 0 = n })) d.named (λ b. ap (option_map (λ (x : Field). x.name)) there);
-        locals = d.named.locals;
-        tree = λ e. ap PointerFieldTree (declared_name file s t name (PointerField (record { 0 = n })) d.named e);
+  pub field_found : (s : Scope) (n : ℕ) (f : FieldTree) → Has (OneField s n f) (field_means s n f)
+  field_found s n (PointerFieldTree name) = unless (OneField s n (PointerFieldTree name)) (n == most limits.Fields) _ _ (λ less.
+      next (Declares file name.value (PointerField (record { 0 = n })) s) _ (declared s name (PointerField (record { 0 = n }))) _ (declared_found file s name (PointerField (record { 0 = n }))) (λ t d there. record {
+        goes = goes_by file s t name.value (PointerField (record { 0 = n })) d (λ b. ap (option_map (λ (x : Field). x.name)) there);
+        locals = d.locals;
+        tree = λ e. ap (λ m. PointerFieldTree (bare m)) (declared_name file s t name.value (PointerField (record { 0 = n })) d e);
       }))
-  field_found s n at (DataFieldTree name) = unless (OneField s n (DataFieldTree name)) (n == most limits.Fields) _ _ (λ less.
-      next (Found (Declares file name (DataField (record { 0 = n })) s) (λ a. declared s name a (DataField (record { 0 = n })))) _ (declared s name (at + 1) (DataField (record { 0 = n }))) _ (declared_found file s name (at + 1) (DataField (record { 0 = n }))) (λ t d there. record {
-        goes = goes_by file s t name (DataField (record { 0 = n })) d.named (λ b. ap (option_map (λ (x : Field). x.name)) there);
-        locals = d.named.locals;
-        tree = λ e. ap DataFieldTree (declared_name file s t name (DataField (record { 0 = n })) d.named e);
+  field_found s n (DataFieldTree name) = unless (OneField s n (DataFieldTree name)) (n == most limits.Fields) _ _ (λ less.
+      next (Declares file name.value (DataField (record { 0 = n })) s) _ (declared s name (DataField (record { 0 = n }))) _ (declared_found file s name (DataField (record { 0 = n }))) (λ t d there. record {
+        goes = goes_by file s t name.value (DataField (record { 0 = n })) d (λ b. ap (option_map (λ (x : Field). x.name)) there);
+        locals = d.locals;
+        tree = λ e. ap (λ m. DataFieldTree (bare m)) (declared_name file s t name.value (DataField (record { 0 = n })) d e);
       }))
 
   abbrev pub SharedThere : ℕ → ℕ → Type 0
   SharedThere n y = slice_get file.shared n ≡ Some y
 
-  abbrev OneShared : Scope → ℕ → Text → ℕ × Scope × ℕ → Type 0
-  OneShared = OneRead file Text ℕ shared_means (name_at file) SharedThere
+  abbrev OneShared : Scope → ℕ → Placed Text → ℕ × Scope → Type 0
+  OneShared = OneRead file (Placed Text) ℕ shared_means unplaced (λ n. bare (name_at file n)) SharedThere
 
-  pub shared_found : (s : Scope) (n at : ℕ) (name : Text) → Has (OneShared s n name) (shared_means s n at name)
-  shared_found s n at name = unless (OneShared s n name) (n == most limits.Shared) _ _ (λ less.
-      next (Found (Declares file name (Shared n) s) (λ a. declared s name a (Shared n))) _ (declared s name (at + 1) (Shared n)) _ (declared_found file s name (at + 1) (Shared n)) (λ t d there. record {
-        goes = goes_by file s t name (Shared n) d.named (λ b. there);
-        locals = d.named.locals;
-        tree = λ e. declared_name file s t name (Shared n) d.named e;
+  pub shared_found : (s : Scope) (n : ℕ) (name : Placed Text) → Has (OneShared s n name) (shared_means s n name)
+  shared_found s n name = unless (OneShared s n name) (n == most limits.Shared) _ _ (λ less.
+      next (Declares file name.value (Shared n) s) _ (declared s name (Shared n)) _ (declared_found file s name (Shared n)) (λ t d there. record {
+        goes = goes_by file s t name.value (Shared n) d (λ b. there);
+        locals = d.locals;
+        tree = λ e. ap (λ (m : Text). bare m) (declared_name file s t name.value (Shared n) d e);
       }))
 
   -- `retire` stands before those that are declared
@@ -107,17 +108,17 @@ module _ (file : File) where
   FunctionThere n y = slice_get file.funcs (n + 1) ≡ Some y
 
   abbrev pub function_spelled : Func → FunctionTree
-  function_spelled f = FunctionDeclares (name_at file f.name) f.pointer
+  function_spelled f = FunctionDeclares (bare (name_at file f.name)) f.pointer
 
-  abbrev OneFunction : Scope → ℕ → FunctionTree → Func × Scope × ℕ → Type 0
-  OneFunction = OneRead file FunctionTree Func function_means function_spelled FunctionThere
+  abbrev OneFunction : Scope → ℕ → FunctionTree → Func × Scope → Type 0
+  OneFunction = OneRead file FunctionTree Func function_means unplaced_function function_spelled FunctionThere
 
-  pub function_declared : (s : Scope) (n at : ℕ) (f : FunctionTree) → Has (OneFunction s n f) (function_means s n at f)
-  function_declared s n at (FunctionDeclares name p) = unless (OneFunction s n (FunctionDeclares name p)) (n == most limits.Calls) _ _ (λ less.
-      next (Found (Declares file name (Function (record { 0 = n + 1 }) p) s) (λ a. declared s name a (Function (record { 0 = n + 1 }) p))) _ (declared s name (at + 1) (Function (record { 0 = n + 1 }) p)) _ (declared_found file s name (at + 1) (Function (record { 0 = n + 1 }) p)) (λ t d there. record {
-        goes = goes_by file s t name (Function (record { 0 = n + 1 }) p) d.named (λ b. ap (option_map (λ (x : Func). x.name)) there);
-        locals = d.named.locals;
-        tree = λ e. ap (λ m. FunctionDeclares m p) (declared_name file s t name (Function (record { 0 = n + 1 }) p) d.named e);
+  pub function_declared : (s : Scope) (n : ℕ) (f : FunctionTree) → Has (OneFunction s n f) (function_means s n f)
+  function_declared s n (FunctionDeclares name p) = unless (OneFunction s n (FunctionDeclares name p)) (n == most limits.Calls) _ _ (λ less.
+      next (Declares file name.value (Function (record { 0 = n + 1 }) p) s) _ (declared s name (Function (record { 0 = n + 1 }) p)) _ (declared_found file s name (Function (record { 0 = n + 1 }) p)) (λ t d there. record {
+        goes = goes_by file s t name.value (Function (record { 0 = n + 1 }) p) d (λ b. ap (option_map (λ (x : Func). x.name)) there);
+        locals = d.locals;
+        tree = λ e. ap (λ m. FunctionDeclares (bare m) p) (declared_name file s t name.value (Function (record { 0 = n + 1 }) p) d e);
       }))
 
   -- ---- auxiliary fields
@@ -125,51 +126,51 @@ module _ (file : File) where
   abbrev ValueThere : ℕ → ℕ → ℕ → Type 0
   ValueThere g k y = slice_get (values_of (slice_get file.ghosts g)) k ≡ Some y
 
-  abbrev OneValue : Scope → ℕ → ℕ → Text → ℕ × Scope → Type 0
-  OneValue s g k name x = ValueThere g k x.0 → Spelled file (name_at file) s name x.0 x.1
+  abbrev OneValue : Scope → ℕ → ℕ → Placed Text → ℕ × Scope → Type 0
+  OneValue s g k name x = ValueThere g k x.0 → Spelled file (λ n. bare (name_at file n)) s (unplaced name) x.0 x.1
 
-  value_declared : (s : Scope) (g k at : ℕ) (name : Text) → Has (OneValue s g k name) (value_means s g k at name)
-  value_declared s g k at name =
-      next (Found (Declares file name (Value g k) s) (λ a. declared s name a (Value g k))) (OneValue s g k name) (declared s name at (Value g k)) _ (declared_found file s name at (Value g k)) (λ t d.
-      unless (OneValue s g k name) (k == most limits.Values) _ _ (λ less there. record { goes = goes_by file s t name (Value g k) d.named (λ b. there); locals = d.named.locals; tree = λ e. declared_name file s t name (Value g k) d.named e }))
+  value_declared : (s : Scope) (g k : ℕ) (name : Placed Text) → Has (OneValue s g k name) (value_means s g k name)
+  value_declared s g k name =
+      next (Declares file name.value (Value g k) s) (OneValue s g k name) (declared s name (Value g k)) _ (declared_found file s name (Value g k)) (λ t d.
+      unless (OneValue s g k name) (k == most limits.Values) _ _ (λ less there. record { goes = goes_by file s t name.value (Value g k) d (λ b. there); locals = d.locals; tree = λ e. ap (λ (m : Text). bare m) (declared_name file s t name.value (Value g k) d e) }))
 
-  abbrev ManyValues : Scope → ℕ → ℕ → List Text → List ℕ × Scope × ℕ → Type 0
-  ManyValues s g k names r = AllThere (ValueThere g) k r.0 → Spelled file (map (name_at file)) s names r.0 r.1
+  abbrev ManyValues : Scope → ℕ → ℕ → List (Placed Text) → List ℕ × Scope → Type 0
+  ManyValues s g k names r = AllThere (ValueThere g) k r.0 → Spelled file (map (λ n. bare (name_at file n))) s (unplaced_names names) r.0 r.1
 
-  values_declared : (s : Scope) (g k at : ℕ) (names : List Text) → Has (ManyValues s g k names) (values_mean s g k at names)
-  values_declared s g k at [] = λ there. none_spelled file (name_at file) s
-  values_declared s g k at (name ∷ names) =
-      next (OneValue s g k name) (ManyValues s g k (name ∷ names)) (value_means s g k (at + 1) name) _ (value_declared s g k (at + 1) name) (λ first f.
-      next (ManyValues first.1 g (k + 1) names) (ManyValues s g k (name ∷ names)) (values_mean first.1 g (k + 1) (at + 2) names) _ (values_declared first.1 g (k + 1) (at + 2) names) (λ others h there.
-      one_then file (name_at file) s first.1 others.1 name names first.0 others.0 (f (first_there (ValueThere g) k first.0 others.0 there)) (h (others_there (ValueThere g) k first.0 others.0 there))))
+  values_declared : (s : Scope) (g k : ℕ) (names : List (Placed Text)) → Has (ManyValues s g k names) (values_mean s g k names)
+  values_declared s g k [] = λ there. none_spelled file (λ n. bare (name_at file n)) s
+  values_declared s g k (name ∷ names) =
+      next (OneValue s g k name) (ManyValues s g k (name ∷ names)) (value_means s g k name) _ (value_declared s g k name) (λ first f.
+      next (ManyValues first.1 g (k + 1) names) (ManyValues s g k (name ∷ names)) (values_mean first.1 g (k + 1) names) _ (values_declared first.1 g (k + 1) names) (λ others h there.
+      one_then file (λ n. bare (name_at file n)) s first.1 others.1 (unplaced name) (unplaced_names names) first.0 others.0 (f (first_there (ValueThere g) k first.0 others.0 there)) (h (others_there (ValueThere g) k first.0 others.0 there))))
 
   abbrev pub GhostThere : ℕ → Ghost → Type 0
   GhostThere n y = slice_get file.ghosts n ≡ Some y
 
   abbrev pub ghost_spelled : Ghost → GhostTree
-  ghost_spelled g = AuxiliaryTree (name_at file g.name) (ghost_kind file g.values)
+  ghost_spelled g = AuxiliaryTree (bare (name_at file g.name)) (ghost_kind file g.values)
 
-  abbrev OneGhost : Scope → ℕ → GhostTree → Ghost × Scope × ℕ → Type 0
-  OneGhost = OneRead file GhostTree Ghost ghost_means ghost_spelled GhostThere
+  abbrev OneGhost : Scope → ℕ → GhostTree → Ghost × Scope → Type 0
+  OneGhost = OneRead file GhostTree Ghost ghost_means unplaced_ghost ghost_spelled GhostThere
 
-  pub ghost_declared : (s : Scope) (n at : ℕ) (g : GhostTree) → Has (OneGhost s n g) (ghost_means s n at g)
-  ghost_declared s n at (AuxiliaryTree name OfThreads) = unless (OneGhost s n (AuxiliaryTree name OfThreads)) (n == most limits.Ghosts) _ _ (λ less.
-      next (Found (Declares file name (Auxiliary n true) s) (λ a. declared s name a (Auxiliary n true))) _ (declared s name (at + 1) (Auxiliary n true)) _ (declared_found file s name (at + 1) (Auxiliary n true)) (λ t d there. record {
-        goes = goes_by file s t name (Auxiliary n true) d.named (λ b. ap (option_map (λ (x : Ghost). x.name)) there);
-        locals = d.named.locals;
-        tree = λ e. ap (λ m. AuxiliaryTree m OfThreads) (declared_name file s t name (Auxiliary n true) d.named e);
+  pub ghost_declared : (s : Scope) (n : ℕ) (g : GhostTree) → Has (OneGhost s n g) (ghost_means s n g)
+  ghost_declared s n (AuxiliaryTree name OfThreads) = unless (OneGhost s n (AuxiliaryTree name OfThreads)) (n == most limits.Ghosts) _ _ (λ less.
+      next (Declares file name.value (Auxiliary n true) s) _ (declared s name (Auxiliary n true)) _ (declared_found file s name (Auxiliary n true)) (λ t d there. record {
+        goes = goes_by file s t name.value (Auxiliary n true) d (λ b. ap (option_map (λ (x : Ghost). x.name)) there);
+        locals = d.locals;
+        tree = λ e. ap (λ m. AuxiliaryTree (bare m) OfThreads) (declared_name file s t name.value (Auxiliary n true) d e);
       }))
-  ghost_declared s n at (AuxiliaryTree name (OneOf v vs)) = unless (OneGhost s n (AuxiliaryTree name (OneOf v vs))) (n == most limits.Ghosts) _ _ (λ less.
-      next (Found (Declares file name (Auxiliary n false) s) (λ a. declared s name a (Auxiliary n false))) _ (declared s name (at + 1) (Auxiliary n false)) _ (declared_found file s name (at + 1) (Auxiliary n false)) (λ t d.
-      next (OneValue t n 0 v) _ (value_means t n 0 (at + 3) v) _ (value_declared t n 0 (at + 3) v) (λ first f.
-      next (ManyValues first.1 n 1 vs) _ (values_mean first.1 n 1 (at + 4) vs) _ (values_declared first.1 n 1 (at + 4) vs) (λ others h there.
+  ghost_declared s n (AuxiliaryTree name (OneOf v vs)) = unless (OneGhost s n (AuxiliaryTree name (OneOf v vs))) (n == most limits.Ghosts) _ _ (λ less.
+      next (Declares file name.value (Auxiliary n false) s) _ (declared s name (Auxiliary n false)) _ (declared_found file s name (Auxiliary n false)) (λ t d.
+      next (OneValue t n 0 v) _ (value_means t n 0 v) _ (value_declared t n 0 v) (λ first f.
+      next (ManyValues first.1 n 1 vs) _ (values_mean first.1 n 1 vs) _ (values_declared first.1 n 1 vs) (λ others h there.
       let one = f (ap (λ (o : Option Ghost). slice_get (values_of o) 0) there) in
       let many = h (λ j y e. ap (λ (o : Option Ghost). slice_get (values_of o) (1 + j)) there ∙ onward first.0 others.0 j ∙ e) in
-      let declares = goes_by file s t name (Auxiliary n false) d.named (λ b. ap (option_map (λ (x : Ghost). x.name)) there) in
+      let declares = goes_by file s t name.value (Auxiliary n false) d (λ b. ap (option_map (λ (x : Ghost). x.name)) there) in
       record {
         goes = goes_on file s t others.1 declares (goes_on file t first.1 others.1 one.goes many.goes);
-        locals = many.locals ∙ one.locals ∙ d.named.locals;
+        locals = many.locals ∙ one.locals ∙ d.locals;
         tree = λ e.
             let middle = ends_before file first.1 others.1 many.goes e in
-            rw (declared_name file s t name (Auxiliary n false) d.named (ends_before file t first.1 one.goes middle), one.tree middle, many.tree e) refl;
+            rw (declared_name file s t name.value (Auxiliary n false) d (ends_before file t first.1 one.goes middle), one.tree middle, many.tree e) refl;
       }))))

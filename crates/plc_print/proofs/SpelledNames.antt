@@ -13,18 +13,18 @@ use Rattle.plc_lang.specs.declared.syntax.Ghost.{Ghost}
 use Rattle.plc_lang.specs.declared.syntax.File.{File}
 use Rattle.plc_lang.specs.declared.syntax.Local.{Local}
 use Rattle.plc_lang.specs.declared.syntax.Var.TheVariants.{Shared as SharedVar, Local as LocalVar}
-use Rattle.plc_syntax.specs.Trees.{Text}
+use Rattle.plc_syntax.specs.Trees.{Text, Placed}
 use Rattle.plc_scope.specs.declared.scope.Scope.{Scope}
 use Rattle.plc_scope.specs.declared.binding.Binding.{Binding}
 use Rattle.plc_scope.specs.declared.binding.Binding.TheVariants.{Taken, Shared, PointerField, DataField, Function, Auxiliary, Value, LocalOnly}
 use Rattle.plc_scope.specs.declared.binding.Role.{Role}
 use Rattle.plc_scope.specs.declared.binding.Role.TheVariants.{PointerVariable as pointer_variable, DataLocal as data_local, PointerField as pointer_field, DataField as data_field, Function as function, Auxiliary as auxiliary, Value as value, NoValue as no_value}
-use Rattle.plc_scope.specs.Scope.{known, needed, if_fits, binding_role, local_role, role_found, role_of, as_pointer, as_pointer_local, as_data, as_pointer_field, as_data_field, as_function, as_protecting, as_without_pointer, as_auxiliary, as_value_of, pointer_at, pointer_local_at, data_at, pointer_field_at, data_field_at, function_at, protecting_at, without_pointer_at, auxiliary_at, value_at}
+use Rattle.plc_scope.specs.Scope.{known, needed, if_fits, role_at, binding_role, local_role, role_found, role_of, as_pointer, as_pointer_local, as_data, as_pointer_field, as_data_field, as_function, as_protecting, as_without_pointer, as_auxiliary, as_value_of, pointer_at, pointer_local_at, data_at, pointer_field_at, data_field_at, function_at, protecting_at, without_pointer_at, auxiliary_at, value_at}
 use Rattle.plc_scope.proofs.Holds.{Has}
 use Rattle.plc_scope.proofs.Finds.{made_is, of_kind}
 use Rattle.plc_lang.specs.Names.{name_at, name_of, field_name, function_name, auxiliary_name, values_of, value_name, pointer_name, data_name, variable_name}
 use Rattle.plc_lang.specs.Locals.{is_data}
-use Rattle.plc_print.proofs.Steps.{Found, Within}
+use Rattle.plc_print.proofs.Steps.{Within}
 
 -- ---- the place of a name
 
@@ -121,16 +121,16 @@ module _ (file : File) where
 
   -- ---- what is found by a name
 
-  pub fits_found : {A : Type 0} (E : Type 0) (Q : A → Type 0) (o : Option A) (at : ℕ) → (E → IfSome o Q) → Has (Found (λ x. E → Q x) (λ p. if_fits p o)) (if_fits at o)
-  fits_found E Q (Some x) at h = record { named = h; again = λ p. refl }
+  pub fits_found : {A : Type 0} (E : Type 0) (Q : A → Type 0) (o : Option A) (at : ℕ) → (E → IfSome o Q) → Has (λ x. E → Q x) (if_fits at o)
+  fits_found E Q (Some x) at h = h
   fits_found E Q None at h = tt
 
-  pub known_found : {K : Type 0} (E : Type 0) (R : K → Type 0) (o : Option K) (at : ℕ) → (E → IfSome o R) → Has (Found (λ k. E → R k) (λ p. known p o)) (known at o)
-  known_found E R (Some k) at h = record { named = h; again = λ p. refl }
+  pub known_found : {K : Type 0} (E : Type 0) (R : K → Type 0) (o : Option K) (at : ℕ) → (E → IfSome o R) → Has (λ k. E → R k) (known at o)
+  known_found E R (Some k) at h = h
   known_found E R None at h = tt
 
   needed_found : {A : Type 0} (wanted : Role → Option A) (E : Type 0) (R : Role → Type 0) (Q : A → Type 0) (o : Option Role) (at : ℕ) → (E → IfSome o R) → ((r : Role) → R r → IfSome (wanted r) Q)
-      → Has (Found (λ x. E → Q x) (λ p. needed wanted p o)) (needed wanted at o)
+      → Has (λ x. E → Q x) (needed wanted at o)
   needed_found wanted E R Q None at h k = tt
   needed_found wanted E R Q (Some r) at h k = fits_found E Q (wanted r) at (λ e. k r (h e))
 
@@ -193,35 +193,35 @@ module _ (file : File) where
   as_value_is g locals n (value h v) f = of_field h g v n (h == g) refl f
   as_value_is g locals n _ f = tt
 
-  -- what a name at a place is found to be, whatever is wanted, is spelled by the name
-  pub record NamesFound (s : Scope) (n : Text) (at : ℕ) : Type 0 where
-    pub any : Has (Found (λ r. Ends s → RoleIs s.locals n r) (λ p. known p (role_of s n))) (known at (role_of s n))
-    pub pointer : Has (Found (λ q. Ends s → variable_name file s.locals q ≡ n) (pointer_at s n)) (pointer_at s n at)
-    pub pointer_local : Has (Found (λ q. Ends s → pointer_name file s.locals q ≡ n) (pointer_local_at s n)) (pointer_local_at s n at)
-    pub data_local : Has (Found (λ x. Ends s → data_name file s.locals x ≡ n) (data_at s n)) (data_at s n at)
-    pub pointer_field : Has (Found (λ f. Ends s → field_name file f ≡ n) (pointer_field_at s n)) (pointer_field_at s n at)
-    pub data_field : Has (Found (λ f. Ends s → field_name file f ≡ n) (data_field_at s n)) (data_field_at s n at)
-    pub function : Has (Found (λ f. Ends s → function_name file f.0 ≡ n) (function_at s n)) (function_at s n at)
-    pub protecting : Has (Found (λ f. Ends s → function_name file f ≡ n) (protecting_at s n)) (protecting_at s n at)
-    pub without_pointer : Has (Found (λ f. Ends s → function_name file f ≡ n) (without_pointer_at s n)) (without_pointer_at s n at)
-    pub auxiliary : Has (Found (λ g. Ends s → auxiliary_name file g.0 ≡ n) (auxiliary_at s n)) (auxiliary_at s n at)
-    pub value : (g : ℕ) → Has (Found (λ v. Ends s → value_name file g v ≡ n) (value_at s g n)) (value_at s g n at)
+  -- what a name is found to be, whatever is wanted, is spelled by the name
+  pub record NamesFound (s : Scope) (n : Placed Text) : Type 0 where
+    pub any : Has (λ r. Ends s → RoleIs s.locals n.value r) (role_at s n)
+    pub pointer : Has (λ q. Ends s → variable_name file s.locals q ≡ n.value) (pointer_at s n)
+    pub pointer_local : Has (λ q. Ends s → pointer_name file s.locals q ≡ n.value) (pointer_local_at s n)
+    pub data_local : Has (λ x. Ends s → data_name file s.locals x ≡ n.value) (data_at s n)
+    pub pointer_field : Has (λ f. Ends s → field_name file f ≡ n.value) (pointer_field_at s n)
+    pub data_field : Has (λ f. Ends s → field_name file f ≡ n.value) (data_field_at s n)
+    pub function : Has (λ f. Ends s → function_name file f.0 ≡ n.value) (function_at s n)
+    pub protecting : Has (λ f. Ends s → function_name file f ≡ n.value) (protecting_at s n)
+    pub without_pointer : Has (λ f. Ends s → function_name file f ≡ n.value) (without_pointer_at s n)
+    pub auxiliary : Has (λ g. Ends s → auxiliary_name file g.0 ≡ n.value) (auxiliary_at s n)
+    pub value : (g : ℕ) → Has (λ v. Ends s → value_name file g v ≡ n.value) (value_at s g n)
 
-  pub names_found : (s : Scope) (n : Text) (at : ℕ) → Bound s → NamesFound s n at
+  pub names_found : (s : Scope) (n : Placed Text) → Bound s → NamesFound s n
   unfolding pointer_at pointer_local_at data_at pointer_field_at data_field_at function_at protecting_at without_pointer_at auxiliary_at value_at
-  names_found s n at bound =
-      let role = role_of s n in
-      let is = role_is s n bound in
+  names_found s n bound =
+      let role = role_of s n.value in
+      let is = role_is s n.value bound in
       record {
-        any = known_found (Ends s) (RoleIs s.locals n) role at is;
-        pointer = needed_found as_pointer (Ends s) (RoleIs s.locals n) (λ q. variable_name file s.locals q ≡ n) role at is (as_pointer_is s.locals n);
-        pointer_local = needed_found as_pointer_local (Ends s) (RoleIs s.locals n) (λ q. pointer_name file s.locals q ≡ n) role at is (as_pointer_local_is s.locals n);
-        data_local = needed_found as_data (Ends s) (RoleIs s.locals n) (λ x. data_name file s.locals x ≡ n) role at is (as_data_is s.locals n);
-        pointer_field = needed_found as_pointer_field (Ends s) (RoleIs s.locals n) (λ f. field_name file f ≡ n) role at is (as_pointer_field_is s.locals n);
-        data_field = needed_found as_data_field (Ends s) (RoleIs s.locals n) (λ f. field_name file f ≡ n) role at is (as_data_field_is s.locals n);
-        function = needed_found as_function (Ends s) (RoleIs s.locals n) (λ f. function_name file f.0 ≡ n) role at is (as_function_is s.locals n);
-        protecting = needed_found as_protecting (Ends s) (RoleIs s.locals n) (λ f. function_name file f ≡ n) role at is (as_protecting_is s.locals n);
-        without_pointer = needed_found as_without_pointer (Ends s) (RoleIs s.locals n) (λ f. function_name file f ≡ n) role at is (as_without_pointer_is s.locals n);
-        auxiliary = needed_found as_auxiliary (Ends s) (RoleIs s.locals n) (λ g. auxiliary_name file g.0 ≡ n) role at is (as_auxiliary_is s.locals n);
-        value = λ g. needed_found (as_value_of g) (Ends s) (RoleIs s.locals n) (λ v. value_name file g v ≡ n) role at is (as_value_is g s.locals n);
+        any = known_found (Ends s) (RoleIs s.locals n) role n.at is;
+        pointer = needed_found as_pointer (Ends s) (RoleIs s.locals n) (λ q. variable_name file s.locals q ≡ n.value) role n.at is (as_pointer_is s.locals n.value);
+        pointer_local = needed_found as_pointer_local (Ends s) (RoleIs s.locals n) (λ q. pointer_name file s.locals q ≡ n.value) role n.at is (as_pointer_local_is s.locals n.value);
+        data_local = needed_found as_data (Ends s) (RoleIs s.locals n) (λ x. data_name file s.locals x ≡ n.value) role n.at is (as_data_is s.locals n.value);
+        pointer_field = needed_found as_pointer_field (Ends s) (RoleIs s.locals n) (λ f. field_name file f ≡ n.value) role n.at is (as_pointer_field_is s.locals n.value);
+        data_field = needed_found as_data_field (Ends s) (RoleIs s.locals n) (λ f. field_name file f ≡ n.value) role n.at is (as_data_field_is s.locals n.value);
+        function = needed_found as_function (Ends s) (RoleIs s.locals n) (λ f. function_name file f.0 ≡ n.value) role n.at is (as_function_is s.locals n.value);
+        protecting = needed_found as_protecting (Ends s) (RoleIs s.locals n) (λ f. function_name file f ≡ n.value) role n.at is (as_protecting_is s.locals n.value);
+        without_pointer = needed_found as_without_pointer (Ends s) (RoleIs s.locals n) (λ f. function_name file f ≡ n.value) role n.at is (as_without_pointer_is s.locals n.value);
+        auxiliary = needed_found as_auxiliary (Ends s) (RoleIs s.locals n) (λ g. auxiliary_name file g.0 ≡ n.value) role n.at is (as_auxiliary_is s.locals n.value);
+        value = λ g. needed_found (as_value_of g) (Ends s) (RoleIs s.locals n) (λ v. value_name file g v ≡ n.value) role n.at is (as_value_is g s.locals n.value);
       }

@@ -1,5 +1,5 @@
 -- The tree of a unit's canonical text: each number is spelled by the name that it stands for, and optional parts that
--- are empty are left out.
+-- are empty are left out. A text that is still to be written has no places, so each is 0.
 use Rattle.std.specs.Prelude.{ℕ, Bool, true, false, not, Option, Some, None, List, [], ◌∷◌, map, filter, drop}
 use Rattle.std.specs.Prelude.{option_map}
 use Rattle.plc_base.specs.declared.ids.FieldId.{FieldId}
@@ -29,8 +29,9 @@ use Rattle.plc_lang.specs.Statements.{Statement, One, Atomic, Call, If, Choose, 
 use Rattle.plc_lang.specs.Statements.{Statements, Empty, Then, Blocks, NoBlock, And}
 use Rattle.plc_auto.specs.declared.observer.Observer.{Observer}
 use Rattle.plc_auto.specs.declared.observer.Observer.TheVariants.{Plain, Hazard, Epoch}
-use Rattle.plc_syntax.specs.Trees.{Text, FieldTree, PointerField, DataField, Declares, WatchTree, UseHazard, UseEpoch}
-use Rattle.plc_syntax.specs.Trees.{GhostKindTree, OneOf, OfThreads, Auxiliary, PlaceOf, AtomTree, NullAtom, NumberAtom}
+use Rattle.plc_syntax.specs.Trees.{Text, Placed, FieldTree, PointerField, DataField, Declares, WatchTree, UseHazard}
+use Rattle.plc_syntax.specs.Trees.{UseEpoch, GhostKindTree, OneOf, OfThreads, Auxiliary, PlaceTree, PlaceOf, AtomTree}
+use Rattle.plc_syntax.specs.Trees.{NullAtom, NumberAtom}
 use Rattle.plc_syntax.specs.Trees.{NameAtom, ValueTree, NullValue, NewValue, NumberValue, PlaceValue, SetTree, SetName}
 use Rattle.plc_syntax.specs.Trees.{SetField, RefreshName, RefreshField, GhostValueTree, NameGhost, MeGhost, NoneGhost}
 use Rattle.plc_syntax.specs.Trees.{GhostSetTree, SetGhost, InitialTree, InitialSet, InitialGhost, Comparison, SameAs}
@@ -44,7 +45,7 @@ use Rattle.plc_syntax.specs.Trees.{NoStatement, Then as ThenStatement, ElseTree,
 use Rattle.plc_syntax.specs.Trees.{OrBlock, OpTree, Operates, FileTree, MarkValue, UnmarkValue, MarkedTest}
 use Rattle.plc_syntax.specs.Trees.{UnmarkedTest}
 use Rattle.plc_parse.specs.declared.unit.Unit.{Unit as FileUnit}
-use Rattle.plc_print.specs.Outlines.{outline_tree}
+use Rattle.plc_print.specs.Outlines.{bare, outline_tree}
 
 -- ---- parts without names
 
@@ -69,63 +70,72 @@ choice_tree (OrBlock a (OrBlock b os)) = ChooseStatement a b os
 -- ---- primitives; what no text can say, as a call within a step, has an arbitrary tree
 
 module _ (file : File) (locals : List Local) where
-  -- a pointer variable that is read
-  abbrev pub from_variable : Var → ValueTree
-  from_variable q = PlaceValue (PlaceOf (variable_name file locals q) None)
+  -- the names of variables
+  abbrev pub variable : Var → Placed Text
+  variable v = bare (variable_name file locals v)
 
-  -- a field of a pointer variable that is read
-  abbrev pub from_field : Var → FieldId → ValueTree
-  from_field q f = PlaceValue (PlaceOf (variable_name file locals q) (Some (field_name file f)))
+  abbrev pub pointer : ℕ → Placed Text
+  pointer v = bare (pointer_name file locals v)
+
+  abbrev pub data_local : ℕ → Placed Text
+  data_local x = bare (data_name file locals x)
+
+  -- a field's name
+  abbrev pub field : FieldId → Placed Text
+  field f = bare (field_name file f)
+
+  -- a pointer variable that is read, and a field of one
+  abbrev pub from_variable : Var → PlaceTree
+  from_variable q = PlaceOf (variable q) None
+
+  abbrev pub from_field : Var → FieldId → PlaceTree
+  from_field q f = PlaceOf (variable q) (Some (field f))
 
   -- what is put into a data local
   abbrev pub value_tree : Num → ValueTree
-  value_tree (nums.Lit n) = NumberValue n
-  value_tree (nums.Local y) = PlaceValue (PlaceOf (data_name file locals y) None)
+  value_tree (nums.Lit n) = NumberValue (bare n)
+  value_tree (nums.Local y) = PlaceValue (PlaceOf (data_local y) None)
 
   -- what is put into a data field, and what a data local is compared with
   abbrev pub number_tree : Num → AtomTree
-  number_tree (nums.Lit n) = NumberAtom n
-  number_tree (nums.Local y) = NameAtom (data_name file locals y)
-
-  -- a pointer variable that is put into a field, and with which another is compared
-  abbrev pub pointer_tree : Var → AtomTree
-  pointer_tree q = NameAtom (variable_name file locals q)
+  number_tree (nums.Lit n) = NumberAtom (bare n)
+  number_tree (nums.Local y) = NameAtom (data_local y)
 
   -- an assignment
   abbrev pub set_tree : Primitive → SetTree
-  set_tree (prims.Null p) = SetName (variable_name file locals p) NullValue
-  set_tree (prims.Copy p q) = SetName (variable_name file locals p) (from_variable q)
-  set_tree (prims.New p) = SetName (variable_name file locals p) NewValue
-  set_tree (prims.Mark p q) = SetName (variable_name file locals p) (MarkValue (variable_name file locals q))
-  set_tree (prims.Unmark p q) = SetName (variable_name file locals p) (UnmarkValue (variable_name file locals q))
-  set_tree (prims.Load p q f) = SetName (variable_name file locals p) (from_field q f)
-  set_tree (prims.Store p f q) = SetField (variable_name file locals p) (field_name file f) (pointer_tree q)
-  set_tree (prims.StoreNull p f) = SetField (variable_name file locals p) (field_name file f) NullAtom
-  set_tree (prims.DataSet x e) = SetName (data_name file locals x) (value_tree e)
-  set_tree (prims.DataLoad x q f) = SetName (data_name file locals x) (from_field q f)
-  set_tree (prims.DataStore p f e) = SetField (variable_name file locals p) (field_name file f) (number_tree e)
-  set_tree k = SetName [] NullValue
+  set_tree (prims.Null p) = SetName (variable p) (NullValue 0)
+  set_tree (prims.Copy p q) = SetName (variable p) (PlaceValue (from_variable q))
+  set_tree (prims.New p) = SetName (variable p) (NewValue 0)
+  set_tree (prims.Mark p q) = SetName (variable p) (MarkValue 0 (variable q))
+  set_tree (prims.Unmark p q) = SetName (variable p) (UnmarkValue 0 (variable q))
+  set_tree (prims.Load p q f) = SetName (variable p) (PlaceValue (from_field q f))
+  set_tree (prims.Store p f q) = SetField (variable p) (field f) (NameAtom (variable q))
+  set_tree (prims.StoreNull p f) = SetField (variable p) (field f) (NullAtom 0)
+  set_tree (prims.DataSet x e) = SetName (data_local x) (value_tree e)
+  set_tree (prims.DataLoad x q f) = SetName (data_local x) (PlaceValue (from_field q f))
+  set_tree (prims.DataStore p f e) = SetField (variable p) (field f) (number_tree e)
+  set_tree k = SetName (bare []) (NullValue 0)
 
   -- what is put into an auxiliary field
   abbrev pub ghost_value_tree : ℕ → GhostVal → GhostValueTree
-  ghost_value_tree g (ghosts.Value v) = NameGhost (value_name file g v)
-  ghost_value_tree g ghosts.Me = MeGhost
-  ghost_value_tree g ghosts.None = NoneGhost
+  ghost_value_tree g (ghosts.Value v) = NameGhost (bare (value_name file g v))
+  ghost_value_tree g ghosts.Me = MeGhost 0
+  ghost_value_tree g ghosts.None = NoneGhost 0
 
   -- an assignment to an auxiliary field
   abbrev pub ghost_tree : Var → ℕ → GhostVal → GhostSetTree
-  ghost_tree p g v = SetGhost (variable_name file locals p) (auxiliary_name file g) (ghost_value_tree g v)
+  ghost_tree p g v = SetGhost (variable p) (bare (auxiliary_name file g)) (ghost_value_tree g v)
 
   -- a test
   abbrev pub test_tree : Primitive → TestTree
-  test_tree (prims.Eq p q) = Compares (variable_name file locals p) SameAs (pointer_tree q)
-  test_tree (prims.Ne p q) = Compares (variable_name file locals p) OtherThan (pointer_tree q)
-  test_tree (prims.IsNull p) = Compares (variable_name file locals p) SameAs NullAtom
-  test_tree (prims.NotNull p) = Compares (variable_name file locals p) OtherThan NullAtom
-  test_tree (prims.MarkTest p true) = MarkedTest (variable_name file locals p)
-  test_tree (prims.MarkTest p false) = UnmarkedTest (variable_name file locals p)
-  test_tree (prims.DataTest r x e) = Compares (data_name file locals x) (comparison r) (number_tree e)
-  test_tree k = Compares [] SameAs NullAtom
+  test_tree (prims.Eq p q) = Compares (variable p) (bare SameAs) (NameAtom (variable q))
+  test_tree (prims.Ne p q) = Compares (variable p) (bare OtherThan) (NameAtom (variable q))
+  test_tree (prims.IsNull p) = Compares (variable p) (bare SameAs) (NullAtom 0)
+  test_tree (prims.NotNull p) = Compares (variable p) (bare OtherThan) (NullAtom 0)
+  test_tree (prims.MarkTest p true) = MarkedTest (variable p)
+  test_tree (prims.MarkTest p false) = UnmarkedTest (variable p)
+  test_tree (prims.DataTest r x e) = Compares (data_local x) (bare (comparison r)) (number_tree e)
+  test_tree k = Compares (bare []) (bare SameAs) (NullAtom 0)
 
   -- a primitive that is a statement, or stands in an atomic block
   abbrev pub primitive_tree : Primitive → PrimitiveTree
@@ -135,65 +145,60 @@ module _ (file : File) (locals : List Local) where
   primitive_tree (prims.NotNull p) = AssumePrimitive (test_tree (prims.NotNull p))
   primitive_tree (prims.DataTest r x e) = AssumePrimitive (test_tree (prims.DataTest r x e))
   primitive_tree (prims.MarkTest p m) = AssumePrimitive (test_tree (prims.MarkTest p m))
-  primitive_tree (prims.Refresh p q) =
-      RefreshPrimitive (RefreshName (pointer_name file locals p) (PlaceOf (variable_name file locals q) None))
-  primitive_tree (prims.RefreshLoad p q f) =
-      RefreshPrimitive
-      (RefreshName (pointer_name file locals p) (PlaceOf (variable_name file locals q) (Some (field_name file f))))
-  primitive_tree (prims.RefreshStore p f q) =
-      RefreshPrimitive (RefreshField (variable_name file locals p) (field_name file f) (variable_name file locals q))
+  primitive_tree (prims.Refresh p q) = RefreshPrimitive (RefreshName (pointer p) (from_variable q))
+  primitive_tree (prims.RefreshLoad p q f) = RefreshPrimitive (RefreshName (pointer p) (from_field q f))
+  primitive_tree (prims.RefreshStore p f q) = RefreshPrimitive (RefreshField (variable p) (field f) (variable q))
   primitive_tree (prims.Call f a) = SkipPrimitive
   primitive_tree (prims.Done f) = SkipPrimitive
-  primitive_tree (prims.Active p) = ActivePrimitive (variable_name file locals p)
+  primitive_tree (prims.Active p) = ActivePrimitive (variable p)
   primitive_tree (prims.Ghost p g v) = GhostPrimitive (ghost_tree p g v)
   primitive_tree k = SetPrimitive (set_tree k)
 
   -- a pointer variable, or null
-  abbrev pub name_or_null : Option Var → Option Text
+  abbrev pub name_or_null : Option Var → Option (Placed Text)
   name_or_null None = None
-  name_or_null (Some q) = Some (variable_name file locals q)
+  name_or_null (Some q) = Some (variable q)
 
   -- a refresh into a variable, as a condition
   abbrev pub refresh_condition : Primitive → ConditionTree
-  refresh_condition (prims.Refresh p q) =
-      RefreshCondition (pointer_name file locals p) (PlaceOf (variable_name file locals q) None)
-  refresh_condition (prims.RefreshLoad p q f) =
-      RefreshCondition (pointer_name file locals p) (PlaceOf (variable_name file locals q) (Some (field_name file f)))
-  refresh_condition k = RefreshCondition [] (PlaceOf [] None)
+  refresh_condition (prims.Refresh p q) = RefreshCondition (pointer p) (from_variable q)
+  refresh_condition (prims.RefreshLoad p q f) = RefreshCondition (pointer p) (from_field q f)
+  refresh_condition k = RefreshCondition (bare []) (PlaceOf (bare []) None)
 
   -- the condition of an `if`
   abbrev pub condition_tree : Cond → ConditionTree
   condition_tree (conds.Test k) = TestCondition (test_tree k)
   condition_tree (conds.Refresh k) = refresh_condition k
   condition_tree (conds.Cas active p old new) =
-      CasCondition active (variable_name file locals p) (name_or_null old) (name_or_null new)
+      CasCondition active (variable p) (name_or_null old) (name_or_null new)
 
   -- what a function is called with
   abbrev pub argument_tree : Arg → Bool → ArgumentTree
   argument_tree args.None active = NoArgument
   argument_tree args.Null active = NullArgument
-  argument_tree (args.Var p) true = ActiveArgument (variable_name file locals p)
-  argument_tree (args.Var p) false = NameArgument (variable_name file locals p)
+  argument_tree (args.Var p) true = ActiveArgument (variable p)
+  argument_tree (args.Var p) false = NameArgument (variable p)
 
   -- ---- statements
 
   abbrev mutual
     pub statement_tree : Statement → StatementTree
     statement_tree (One k) = PrimitiveStatement (primitive_tree k)
-    statement_tree (Atomic ks) = AtomicStatement (map primitive_tree ks)
+    statement_tree (Atomic ks) = AtomicStatement (map (λ k. bare (primitive_tree k)) ks)
     statement_tree (Call f a active d) =
-        CallStatement (function_name file f) (argument_tree a active) (option_map (label_name file) d)
+        CallStatement (bare (function_name file f)) (argument_tree a active)
+        (option_map (λ l. bare (label_name file l)) d)
     statement_tree (If c y n) = IfStatement (condition_tree c) (block_tree y) (else_block n (block_tree n))
     statement_tree (Choose bs) = choice_tree (blocks_tree bs)
     statement_tree (Loop b) = LoopStatement (block_tree b)
     statement_tree Break = BreakStatement
     statement_tree Return = ReturnStatement
     statement_tree Skip = PrimitiveStatement SkipPrimitive
-    statement_tree (Label l) = LabelStatement (label_name file l)
+    statement_tree (Label l) = LabelStatement (bare (label_name file l))
 
     pub block_tree : Statements → BlockTree
     block_tree Empty = NoStatement
-    block_tree (Then l s b) = ThenStatement (statement_tree s) (block_tree b)
+    block_tree (Then l s b) = ThenStatement 0 (statement_tree s) (block_tree b)
 
     pub blocks_tree : Blocks → OrTree
     blocks_tree NoBlock = NoOr
@@ -203,8 +208,8 @@ module _ (file : File) (locals : List Local) where
 
 -- a declaration of a pointer or of data
 abbrev pub declaration_tree : Text → Bool → FieldTree
-declaration_tree name true = PointerField name
-declaration_tree name false = DataField name
+declaration_tree name true = PointerField (bare name)
+declaration_tree name false = DataField (bare name)
 
 -- a local that is no parameter
 abbrev pub is_declared : Local → Bool
@@ -212,8 +217,8 @@ is_declared l = not l.param
 
 -- an operation
 abbrev pub op_tree : File → Op → OpTree
-op_tree file o = Operates (name_at file o.name)
-    (map (λ (l : Local). name_at file l.name) (filter is_parameter o.locals))
+op_tree file o = Operates (bare (name_at file o.name))
+    (map (λ (l : Local). bare (name_at file l.name)) (filter is_parameter o.locals))
     (map (λ (l : Local). declaration_tree (name_at file l.name) l.pointer) (filter is_declared o.locals))
     (block_tree file o.locals o.body)
 
@@ -223,31 +228,31 @@ initial_tree file (prims.Ghost p g v) = InitialGhost (ghost_tree file [] p g v)
 initial_tree file k = InitialSet (set_tree file [] k)
 
 -- an `init` without primitives is left out
-abbrev pub init_tree : File → List Primitive → Option (List InitialTree)
+abbrev pub init_tree : File → List Primitive → Option (List (Placed InitialTree))
 init_tree file [] = None
-init_tree file (k ∷ ks) = Some (map (initial_tree file) (k ∷ ks))
+init_tree file (k ∷ ks) = Some (map (λ k. bare (initial_tree file k)) (k ∷ ks))
 
 -- a field without values holds a thread
 abbrev pub ghost_kind : File → List ℕ → GhostKindTree
 ghost_kind file [] = OfThreads
-ghost_kind file (v ∷ vs) = OneOf (name_at file v) (map (name_at file) vs)
+ghost_kind file (v ∷ vs) = OneOf (bare (name_at file v)) (map (λ v. bare (name_at file v)) vs)
 
 -- what is observed
 abbrev pub watch_tree : File → Observer → Option WatchTree
 watch_tree file Plain = None
-watch_tree file (Hazard f) = Some (UseHazard (function_name file f))
-watch_tree file (Epoch e l) = Some (UseEpoch (function_name file e) (function_name file l))
+watch_tree file (Hazard f) = Some (UseHazard (bare (function_name file f)))
+watch_tree file (Epoch e l) = Some (UseEpoch (bare (function_name file e)) (bare (function_name file l)))
 
 -- the whole file; its struct's name is the first that is declared, after `retire`, which is declared from the start
 abbrev pub canonical_tree : FileUnit → FileTree
 canonical_tree u = record {
-  name = name_at u.file 1;
+  name = bare (name_at u.file 1);
   fields = map (λ (f : Field). declaration_tree (name_at u.file f.name) f.pointer) u.file.fields;
-  pointers = map (name_at u.file) u.file.shared;
-  functions = map (λ (f : Func). Declares (name_at u.file f.name) f.pointer) (drop 1 u.file.funcs);
+  pointers = map (λ n. bare (name_at u.file n)) u.file.shared;
+  functions = map (λ (f : Func). Declares (bare (name_at u.file f.name)) f.pointer) (drop 1 u.file.funcs);
   watched = watch_tree u.file u.observer;
-  ghosts = map (λ (g : Ghost). Auxiliary (name_at u.file g.name) (ghost_kind u.file g.values)) u.file.ghosts;
+  ghosts = map (λ (g : Ghost). Auxiliary (bare (name_at u.file g.name)) (ghost_kind u.file g.values)) u.file.ghosts;
   starts = init_tree u.file u.file.init;
-  ops = map (op_tree u.file) u.file.ops;
+  ops = map (λ o. bare (op_tree u.file o)) u.file.ops;
   outlined = outline_tree u.file u.outline;
 }

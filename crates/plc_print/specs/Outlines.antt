@@ -1,5 +1,5 @@
 -- The tree of an outline's canonical text: invariants before the other items, and nothing at all for an outline of
--- depth 0 that says nothing.
+-- depth 0 that says nothing. It has no places yet.
 use Rattle.std.specs.Prelude.{ℕ, zero, suc, Bool, true, false, Option, Some, None}
 use Rattle.std.specs.Prelude.{List, [], ◌∷◌, ◌++◌, map, get_or}
 use Rattle.plc_lang.specs.declared.syntax.Local.{Local}
@@ -20,10 +20,14 @@ use Rattle.plc_logic.specs.declared.clause.Item.{Item}
 use Rattle.plc_logic.specs.declared.clause.Outline.{Outline}
 use Rattle.plc_lang.specs.Labels.{labels_by_op}
 use Rattle.plc_logic.specs.Sites.{op_of_site}
-use Rattle.plc_syntax.specs.Trees.{Text, PlaceTree, PlaceOf, TermTree, PlaceTerm, NullTerm, NumberTerm, MeTerm}
+use Rattle.plc_syntax.specs.Trees.{Text, Placed, PlaceTree, PlaceOf, TermTree, PlaceTerm, NullTerm, NumberTerm, MeTerm}
 use Rattle.plc_syntax.specs.Trees.{NoneTerm, FlagTree, RetiredFlag, MarkedFlag, LiteralTree, FlagLiteral}
 use Rattle.plc_syntax.specs.Trees.{NotLiteral, EqualityLiteral, BoundTree, NoBound, AllOf, ClauseTree, Claims, ItemTree}
 use Rattle.plc_syntax.specs.Trees.{InvariantItem, OverItem, AtItem, OutlineTree, Outlined}
+
+-- what has no place yet
+abbrev pub bare : {X : Type 0} → X → Placed X
+bare x = record { at = 0; value = x }
 
 -- ---- literals; the names in reach are those of the file, of the operation's locals and of the clause
 
@@ -36,11 +40,11 @@ module _ (file : File) (locals : List Local) (bound : List Text) where
 
   -- a name alone
   abbrev pub name_term : Text → TermTree
-  name_term n = PlaceTerm (PlaceOf n None)
+  name_term n = PlaceTerm (PlaceOf (bare n) None)
 
   -- a field of a node
   abbrev pub field_term : Base → Text → TermTree
-  field_term b f = PlaceTerm (PlaceOf (base_name b) (Some f))
+  field_term b f = PlaceTerm (PlaceOf (bare (base_name b)) (Some (bare f)))
 
   -- a side of an equation
   abbrev pub term_tree : Term → TermTree
@@ -49,24 +53,24 @@ module _ (file : File) (locals : List Local) (bound : List Text) where
   term_tree (terms.Bound i) = name_term (base_name (bases.Bound i))
   term_tree (terms.FieldOf b f) = field_term b (field_name file f)
   term_tree (terms.GhostOf b g) = field_term b (auxiliary_name file g)
-  term_tree terms.Null = NullTerm
-  term_tree (terms.Number n) = NumberTerm n
+  term_tree terms.Null = NullTerm 0
+  term_tree (terms.Number n) = NumberTerm (bare n)
   term_tree (terms.Value g v) = name_term (value_name file g v)
-  term_tree terms.Me = MeTerm
-  term_tree terms.Nobody = NoneTerm
+  term_tree terms.Me = MeTerm 0
+  term_tree terms.Nobody = NoneTerm 0
 
   -- the place of a pointer; no text says that anything else is marked
   abbrev pub pointer_place : Term → PlaceTree
-  pointer_place (terms.Shared i) = PlaceOf (base_name (bases.Shared i)) None
-  pointer_place (terms.Local i) = PlaceOf (base_name (bases.Local i)) None
-  pointer_place (terms.Bound i) = PlaceOf [] None
-  pointer_place (terms.FieldOf b f) = PlaceOf (base_name b) (Some (field_name file f))
-  pointer_place (terms.GhostOf b g) = PlaceOf [] None
-  pointer_place terms.Null = PlaceOf [] None
-  pointer_place (terms.Number n) = PlaceOf [] None
-  pointer_place (terms.Value g v) = PlaceOf [] None
-  pointer_place terms.Me = PlaceOf [] None
-  pointer_place terms.Nobody = PlaceOf [] None
+  pointer_place (terms.Shared i) = PlaceOf (bare (base_name (bases.Shared i))) None
+  pointer_place (terms.Local i) = PlaceOf (bare (base_name (bases.Local i))) None
+  pointer_place (terms.Bound i) = PlaceOf (bare []) None
+  pointer_place (terms.FieldOf b f) = PlaceOf (bare (base_name b)) (Some (bare (field_name file f)))
+  pointer_place (terms.GhostOf b g) = PlaceOf (bare []) None
+  pointer_place terms.Null = PlaceOf (bare []) None
+  pointer_place (terms.Number n) = PlaceOf (bare []) None
+  pointer_place (terms.Value g v) = PlaceOf (bare []) None
+  pointer_place terms.Me = PlaceOf (bare []) None
+  pointer_place terms.Nobody = PlaceOf (bare []) None
 
   -- what is said of a node or a place
   abbrev pub flag_literal : FlagTree → Bool → LiteralTree
@@ -75,7 +79,7 @@ module _ (file : File) (locals : List Local) (bound : List Text) where
 
   abbrev pub literal_tree : Literal → LiteralTree
   literal_tree (Same a b is_equal) = EqualityLiteral (term_tree a) is_equal (term_tree b)
-  literal_tree (Retired x is_so) = flag_literal (RetiredFlag (base_name x)) is_so
+  literal_tree (Retired x is_so) = flag_literal (RetiredFlag (bare (base_name x))) is_so
   literal_tree (Marked t is_so) = flag_literal (MarkedFlag (pointer_place t)) is_so
 
 -- ---- clauses
@@ -83,17 +87,17 @@ module _ (file : File) (locals : List Local) (bound : List Text) where
 -- quantified names, of which there are at most two
 abbrev pub bound_tree : List Text → BoundTree
 bound_tree [] = NoBound
-bound_tree (n ∷ []) = AllOf n None
-bound_tree (n ∷ m ∷ ns) = AllOf n (Some m)
+bound_tree (n ∷ []) = AllOf (bare n) None
+bound_tree (n ∷ m ∷ ns) = AllOf (bare n) (Some (bare m))
 
 -- no text has a clause without literals; none of them is true, as this one isn't
 abbrev pub never : LiteralTree
-never = EqualityLiteral NullTerm false NullTerm
+never = EqualityLiteral (NullTerm 0) false (NullTerm 0)
 
 -- literals in order
 abbrev pub claims_tree : BoundTree → List LiteralTree → ClauseTree
 claims_tree b [] = Claims b never []
-claims_tree b (l ∷ ls) = Claims b l ls
+claims_tree b (l ∷ ls) = Claims b l (map bare ls)
 
 -- a clause where these locals are in reach
 abbrev pub clause_tree : File → List Local → Clause → ClauseTree
@@ -108,12 +112,12 @@ invariant_tree file c = InvariantItem (clause_tree file [] c)
 
 -- no text has an item at no label
 abbrev pub at_tree : List Text → ClauseTree → ItemTree
-at_tree [] c = AtItem [] [] c
-at_tree (n ∷ ns) c = AtItem n ns c
+at_tree [] c = AtItem (bare []) [] c
+at_tree (n ∷ ns) c = AtItem (bare n) (map bare ns) c
 
 -- where an item puts its clause
 abbrev pub site_tree : File → Site → ClauseTree → ItemTree
-site_tree file (Over o) c = OverItem (operation_name file o) c
+site_tree file (Over o) c = OverItem (bare (operation_name file o)) c
 site_tree file (At labels) c = at_tree (map (label_name file) labels) c
 
 -- the locals in reach of an item
@@ -131,12 +135,12 @@ item_tree file item = site_tree file item.site (clause_tree file (site_locals fi
 -- ---- the outline
 
 -- depth 0 is left out
-abbrev pub depth_tree : ℕ → Option ℕ
+abbrev pub depth_tree : ℕ → Option (Placed ℕ)
 depth_tree zero = None
-depth_tree (suc n) = Some (suc n)
+depth_tree (suc n) = Some (bare (suc n))
 
 -- of depth 0 and without items it is left out
-abbrev pub unless_empty : Option ℕ → List ItemTree → Option OutlineTree
+abbrev pub unless_empty : Option (Placed ℕ) → List ItemTree → Option OutlineTree
 unless_empty None [] = None
 unless_empty None (x ∷ xs) = Some (Outlined None (x ∷ xs))
 unless_empty (Some d) xs = Some (Outlined (Some d) xs)

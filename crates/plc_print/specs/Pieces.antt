@@ -1,7 +1,8 @@
 -- What a printer adds to its text.
-use Rattle.std.specs.Prelude.{◌≡◌, List, ◌++◌}
+use Rattle.std.specs.Prelude.{◌≡◌, ◌++◌}
 use Rattle.plc_lex.specs.declared.token.TokenKind.{TokenKind}
 use Rattle.plc_lex.specs.declared.token.TokenKind.TheVariants.{Word, Name, Number, Symbol}
+use Rattle.plc_syntax.specs.Trees.{Pieces, Piece as TreePiece, plain, kinds_of}
 use Rattle.plc_print.specs.Text.{text_of}
 use Rattle.plc_print.specs.declared.tokens.Piece.{Piece}
 use Rattle.plc_print.specs.declared.tokens.Piece.TheVariants as pieces
@@ -14,6 +15,10 @@ kind_of (pieces.Name name) = Name name.now
 kind_of (pieces.Number n) = Number n
 kind_of (pieces.Sign symbol) = Symbol symbol
 
--- the text of these tokens after what was printed before
-abbrev pub Prints : Printer → Printer → List TokenKind → Type 0
-Prints old new tokens = new.text.items ≡ old.text.items ++ text_of tokens
+-- at no place
+abbrev pub piece_of : Piece → TreePiece
+piece_of p = plain (kind_of p)
+
+-- the text of these tokens after what was printed before; where they stood plays no part
+abbrev pub Prints : Printer → Printer → Pieces → Type 0
+Prints old new tokens = new.text.items ≡ old.text.items ++ text_of (kinds_of tokens)

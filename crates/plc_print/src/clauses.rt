@@ -5,9 +5,10 @@ ghost use Rattle.std.specs.Prelude.{◌≡◌, ◌∷◌, [], OnOk, get_or, map}
 ghost use Rattle.plc_lex.specs.declared.token.TokenKind.TheVariants.{Symbol as SymbolToken};
 ghost use Rattle.plc_lex.specs.declared.token.Symbol.TheVariants as symbols;
 ghost use Rattle.plc_logic.specs.declared.clause.Literal.TheVariants as literals;
-ghost use Rattle.plc_syntax.specs.Trees.{NoBound, MarkedFlag, each_then, place_then, term_then, equality_symbol};
+ghost use Rattle.plc_syntax.specs.Trees.{plain, NoBound, MarkedFlag, each_then, place_then, term_then, equality_symbol};
 ghost use Rattle.plc_syntax.specs.Trees.{flag_then, literal_then, or_literal_then, bound_then, clause_then};
-ghost use Rattle.plc_print.specs.Outlines.{base_name, field_term, term_tree, pointer_place, literal_tree, bound_tree};
+ghost use Rattle.plc_print.specs.Outlines.{bare, base_name, field_term, term_tree, pointer_place, literal_tree};
+ghost use Rattle.plc_print.specs.Outlines.{bound_tree};
 ghost use Rattle.plc_print.specs.Outlines.{claims_tree, clause_tree};
 ghost use Rattle.plc_print.specs.Pieces.{Prints};
 
@@ -176,8 +177,8 @@ fn literal(out: &mut Printer, reach: InClause, literal: Literal) -> Printed
 /// A literal after the first.
 fn or_literal(out: &mut Printer, reach: InClause, further: Literal) -> Printed
     ensures { OnOk result
-        (Prints out.old out.new (or_literal_then
-        (literal_tree reach.entry.file.now reach.entry.locals.now reach.entry.bound.now.names further) [])) }
+        (Prints out.old out.new (or_literal_then (bare
+        (literal_tree reach.entry.file.now reach.entry.locals.now reach.entry.bound.now.names further)) [])) }
 {
     out.token(Piece::Word(Keyword::Or))?;
     literal(out, reach, further)
@@ -186,8 +187,8 @@ fn or_literal(out: &mut Printer, reach: InClause, further: Literal) -> Printed
 /// The literals after the first.
 fn or_literals(out: &mut Printer, reach: InClause, literals: &[Literal]) -> Printed
     ensures { OnOk result
-        (Prints out.old out.new (each_then or_literal_then (map
-        (literal_tree reach.entry.file.now reach.entry.locals.now reach.entry.bound.now.names) literals.now) [])) }
+        (Prints out.old out.new (each_then or_literal_then (map bare (map
+        (literal_tree reach.entry.file.now reach.entry.locals.now reach.entry.bound.now.names) literals.now)) [])) }
 {
     for further in literals {
         or_literal(out, reach, *further)?;
@@ -241,7 +242,7 @@ fn clause(out: &mut Printer, reach: Reach, clause: &Clause) -> Printed
 pub fn clause_line(out: &mut Printer, reach: Reach, claim: &Clause) -> Printed
     ensures { OnOk result
         (Prints out.old out.new (clause_then (clause_tree reach.entry.file.now reach.entry.locals.now claim.now)
-        (SymbolToken symbols.Semicolon ∷ []))) }
+        (plain (SymbolToken symbols.Semicolon) ∷ []))) }
 {
     clause(out, reach, claim)?;
     out.token(SEMICOLON)

@@ -4,9 +4,11 @@ ghost use Rattle.plc_lang.specs.Locals.{is_parameter};
 ghost use Rattle.plc_syntax.specs.Trees.{Declares, Auxiliary, each_then, maybe_then, comma_name_then, field_then};
 ghost use Rattle.plc_syntax.specs.Trees.{struct_then, shared_then, function_then, watch_then, ghost_kind_then};
 ghost use Rattle.plc_syntax.specs.Trees.{ghost_then, initial_then, init_then, parameters_then, op_then};
+ghost use Rattle.plc_syntax.specs.Trees.{placed_then};
 ghost use Rattle.plc_print.specs.Canonical.{declaration_tree, is_declared, op_tree, initial_tree, init_tree};
 ghost use Rattle.plc_print.specs.Canonical.{ghost_kind, watch_tree};
 ghost use Rattle.plc_lang.specs.Names.{name_at};
+ghost use Rattle.plc_print.specs.Outlines.{bare};
 ghost use Rattle.plc_print.specs.Pieces.{Prints};
 
 use crate::names::Reach;
@@ -41,7 +43,7 @@ fn fields(out: &mut Printer, file: &File, fields: &[Field]) -> Printed
 /// The struct.
 pub fn structure(out: &mut Printer, file: &File) -> Printed
     ensures { OnOk result
-        (Prints out.old out.new (struct_then (name_at file.now 1) (map (λ f. declaration_tree
+        (Prints out.old out.new (struct_then (bare (name_at file.now 1)) (map (λ f. declaration_tree
         (name_at file.now f.name) f.pointer) file.now.fields) [])) }
 {
     out.tokens(&[
@@ -55,7 +57,8 @@ pub fn structure(out: &mut Printer, file: &File) -> Printed
 
 /// The shared pointers, by the numbers of their names.
 pub fn shared_pointers(out: &mut Printer, file: &File, numbers: &[u16]) -> Printed
-    ensures { OnOk result (Prints out.old out.new (each_then shared_then (map (name_at file.now) numbers.now) [])) }
+    ensures { OnOk result (Prints out.old out.new (each_then shared_then
+        (map (λ n. bare (name_at file.now n)) numbers.now) [])) }
 {
     for number in numbers {
         let name = Piece::Name(name_at(file, *number));
@@ -66,7 +69,7 @@ pub fn shared_pointers(out: &mut Printer, file: &File, numbers: &[u16]) -> Print
 
 /// A reclaimer function.
 fn function(out: &mut Printer, name: &[u8], pointer: bool) -> Printed
-    ensures { OnOk result (Prints out.old out.new (function_then (Declares name.now pointer) [])) }
+    ensures { OnOk result (Prints out.old out.new (function_then (Declares (bare name.now) pointer) [])) }
 {
     let (word, name) = (Piece::Word(Keyword::Call), Piece::Name(name));
     if pointer {
@@ -86,7 +89,7 @@ fn function(out: &mut Printer, name: &[u8], pointer: bool) -> Printed
 /// The reclaimer functions but `retire`, which is declared from the start.
 pub fn declared_functions(out: &mut Printer, file: &File) -> Printed
     ensures { OnOk result
-        (Prints out.old out.new (each_then function_then (map (λ f. Declares (name_at file.now f.name) f.pointer)
+        (Prints out.old out.new (each_then function_then (map (λ f. Declares (bare (name_at file.now f.name)) f.pointer)
         (drop 1 file.now.funcs)) [])) }
 {
     let [_retire, others @ ..] = file.funcs.as_slice() else {
@@ -123,7 +126,8 @@ pub fn watch(out: &mut Printer, file: &File, observer: Observer) -> Printed
 
 /// Names after the first, by their numbers.
 fn comma_names(out: &mut Printer, file: &File, numbers: &[u16]) -> Printed
-    ensures { OnOk result (Prints out.old out.new (each_then comma_name_then (map (name_at file.now) numbers.now) [])) }
+    ensures { OnOk result (Prints out.old out.new (each_then comma_name_then
+        (map (λ n. bare (name_at file.now n)) numbers.now) [])) }
 {
     for number in numbers {
         out.tokens(&[COMMA, Piece::Name(name_at(file, *number))])?;
@@ -148,7 +152,7 @@ fn kind(out: &mut Printer, file: &File, values: &[u16]) -> Printed
 /// An auxiliary field.
 fn auxiliary(out: &mut Printer, file: &File, field: &Ghost) -> Printed
     ensures { OnOk result
-        (Prints out.old out.new (ghost_then (Auxiliary (name_at file.now field.now.name)
+        (Prints out.old out.new (ghost_then (Auxiliary (bare (name_at file.now field.now.name))
         (ghost_kind file.now field.now.values)) [])) }
 {
     out.tokens(&[
@@ -162,7 +166,7 @@ fn auxiliary(out: &mut Printer, file: &File, field: &Ghost) -> Printed
 /// The auxiliary fields.
 pub fn auxiliaries(out: &mut Printer, file: &File, fields: &[Ghost]) -> Printed
     ensures { OnOk result
-        (Prints out.old out.new (each_then ghost_then (map (λ g. Auxiliary (name_at file.now g.name)
+        (Prints out.old out.new (each_then ghost_then (map (λ g. Auxiliary (bare (name_at file.now g.name))
         (ghost_kind file.now g.values)) fields.now) [])) }
 {
     for field in fields {
@@ -173,7 +177,8 @@ pub fn auxiliaries(out: &mut Printer, file: &File, fields: &[Ghost]) -> Printed
 
 /// The primitives of `init`.
 fn initials(out: &mut Printer, file: &File, prims: &[Prim]) -> Printed
-    ensures { OnOk result (Prints out.old out.new (each_then initial_then (map (initial_tree file.now) prims.now) [])) }
+    ensures { OnOk result (Prints out.old out.new (each_then (placed_then initial_then)
+        (map (λ k. bare (initial_tree file.now k)) prims.now) [])) }
 {
     for prim in prims {
         initial_line(out, file, *prim)?;
@@ -210,7 +215,8 @@ fn parameter_numbers(alloc: Global, locals: &[Local]) -> Result<Vec<u16>, AllocE
 
 /// Names with a comma before each but the first, by their numbers.
 fn parted_names(out: &mut Printer, file: &File, numbers: &[u16]) -> Printed
-    ensures { OnOk result (Prints out.old out.new (parameters_then (map (name_at file.now) numbers.now) [])) }
+    ensures { OnOk result (Prints out.old out.new (parameters_then
+        (map (λ n. bare (name_at file.now n)) numbers.now) [])) }
 {
     match numbers {
         [] => Ok(()),
@@ -224,7 +230,7 @@ fn parted_names(out: &mut Printer, file: &File, numbers: &[u16]) -> Printed
 /// The parameters of an operation.
 fn parameters(alloc: Global, out: &mut Printer, file: &File, locals: &[Local]) -> Printed
     ensures { OnOk result
-        (Prints out.old out.new (parameters_then (map (λ l. name_at file.now l.name)
+        (Prints out.old out.new (parameters_then (map (λ l. bare (name_at file.now l.name))
         (filter is_parameter locals.now)) [])) }
 {
     let numbers = parameter_numbers(alloc, locals)?;
@@ -267,7 +273,8 @@ fn operation(alloc: Global, out: &mut Printer, file: &File, op: &Op) -> Printed
 
 /// The operations.
 pub fn operations(alloc: Global, out: &mut Printer, file: &File, ops: &[Op]) -> Printed
-    ensures { OnOk result (Prints out.old out.new (each_then op_then (map (op_tree file.now) ops.now) [])) }
+    ensures { OnOk result (Prints out.old out.new (each_then (placed_then op_then)
+        (map (λ o. bare (op_tree file.now o)) ops.now) [])) }
 {
     for op in ops {
         operation(alloc, out, file, op)?;

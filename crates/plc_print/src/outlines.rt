@@ -10,7 +10,7 @@ ghost use Rattle.plc_syntax.specs.Trees.{AtItem, Outlined, each_then, maybe_then
 ghost use Rattle.plc_syntax.specs.Trees.{depth_then, outline_then};
 ghost use Rattle.plc_lang.specs.Names.{label_name};
 ghost use Rattle.plc_print.specs.Outlines.{clause_tree, invariant_tree, site_tree, locals_in_reach, depth_tree};
-ghost use Rattle.plc_print.specs.Outlines.{item_trees, outline_tree};
+ghost use Rattle.plc_print.specs.Outlines.{bare, item_trees, outline_tree};
 ghost use Rattle.plc_print.specs.Pieces.{Prints};
 
 use crate::clauses::clause_line;
@@ -56,7 +56,7 @@ fn over(out: &mut Printer, reach: Reach, op: OpId, clause: &Clause) -> Printed
 /// Labels after the first.
 fn comma_labels(out: &mut Printer, file: &File, labels: &[u16]) -> Printed
     ensures { OnOk result
-        (Prints out.old out.new (each_then comma_name_then (map (label_name file.now) labels.now) [])) }
+        (Prints out.old out.new (each_then comma_name_then (map bare (map (label_name file.now) labels.now)) [])) }
 {
     for label in labels {
         out.tokens(&[COMMA, Piece::Name(label_name(file, *label))])?;
@@ -73,7 +73,8 @@ fn at_names(
     clause: &Clause,
 ) -> Printed
     ensures { OnOk result
-        (Prints out.old out.new (item_then (AtItem first.now (map (label_name reach.entry.file.now) others.now)
+        (Prints out.old out.new (item_then (AtItem (bare first.now)
+        (map bare (map (label_name reach.entry.file.now) others.now))
         (clause_tree reach.entry.file.now reach.entry.locals.now clause.now)) [])) }
 {
     out.tokens(&[Piece::Word(Keyword::At), Piece::Name(first)])?;

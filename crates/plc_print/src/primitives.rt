@@ -6,14 +6,16 @@ ghost use Rattle.plc_lex.specs.declared.token.TokenKind.TheVariants.{Word as Wor
 ghost use Rattle.plc_lang.specs.declared.syntax.Cond.TheVariants as conds;
 ghost use Rattle.plc_lex.specs.declared.token.Symbol.TheVariants as symbols;
 ghost use Rattle.plc_lex.specs.declared.token.Keyword.TheVariants as words;
-ghost use Rattle.plc_syntax.specs.Trees.{each_then, PlaceOf, RefreshName, RefreshField, SetName, PlaceValue};
+ghost use Rattle.plc_syntax.specs.Trees.{plain, kinds_of, placed_then, each_then, PlaceOf, RefreshName, RefreshField};
+ghost use Rattle.plc_syntax.specs.Trees.{SetName, PlaceValue};
 ghost use Rattle.plc_syntax.specs.Trees.{refresh_then, set_then, test_then, ghost_set_then, primitive_then};
 ghost use Rattle.plc_syntax.specs.Trees.{primitive_line_then, initial_then, condition_then, comparison_symbol};
 ghost use Rattle.plc_syntax.specs.Trees.{value_then, atom_then, name_or_null_then, ghost_value_then};
 ghost use Rattle.plc_print.specs.Canonical.{name_or_null, value_tree, number_tree, set_tree, ghost_value_tree};
 ghost use Rattle.plc_print.specs.Canonical.{ghost_tree, comparison, test_tree, primitive_tree, refresh_condition};
 ghost use Rattle.plc_print.specs.Canonical.{condition_tree, initial_tree};
-ghost use Rattle.plc_print.specs.Pieces.{Prints, kind_of};
+ghost use Rattle.plc_print.specs.Outlines.{bare};
+ghost use Rattle.plc_print.specs.Pieces.{Prints, kind_of, piece_of};
 
 use crate::names::Reach;
 use crate::tokens::{
@@ -24,8 +26,10 @@ use plc_lex::{Keyword, Symbol};
 
 /// A number or a data local.
 fn number<'a>(reach: Reach<'a>, e: Num) -> Piece<'a>
-    ensures value { value_then (value_tree reach.entry.file.now reach.entry.locals.now e) [] ≡ kind_of result ∷ [] }
-    ensures atom { atom_then (number_tree reach.entry.file.now reach.entry.locals.now e) [] ≡ kind_of result ∷ [] }
+    ensures value { kinds_of (value_then (value_tree reach.entry.file.now reach.entry.locals.now e) [])
+        ≡ kind_of result ∷ [] }
+    ensures atom { kinds_of (atom_then (number_tree reach.entry.file.now reach.entry.locals.now e) [])
+        ≡ kind_of result ∷ [] }
 {
     match e {
         Num::Lit(n) => Piece::Number(n),
@@ -36,7 +40,8 @@ fn number<'a>(reach: Reach<'a>, e: Num) -> Piece<'a>
 /// A token that is put into a name.
 fn set_name<'x>(out: &mut Printer, name: &'x [u8], value: Piece<'x>) -> Printed
     ensures { OnOk result
-        (Prints out.old out.new (NameToken name.now ∷ SymbolToken symbols.Assign ∷ kind_of value.entry ∷ [])) }
+        (Prints out.old out.new (plain (NameToken name.now) ∷ plain (SymbolToken symbols.Assign) ∷ piece_of value.entry
+        ∷ [])) }
 {
     out.tokens(&[Piece::Name(name), ASSIGN, value])
 }
@@ -45,7 +50,8 @@ fn set_name<'x>(out: &mut Printer, name: &'x [u8], value: Piece<'x>) -> Printed
 fn set_mark<'x>(out: &mut Printer, name: &'x [u8], word: Keyword, from: &'x [u8]) -> Printed
     ensures { OnOk result
         (Prints out.old out.new
-        (NameToken name.now ∷ SymbolToken symbols.Assign ∷ WordToken word ∷ NameToken from.now ∷ [])) }
+        (plain (NameToken name.now) ∷ plain (SymbolToken symbols.Assign) ∷ plain (WordToken word)
+        ∷ plain (NameToken from.now) ∷ [])) }
 {
     out.tokens(&[
         Piece::Name(name),
@@ -58,7 +64,8 @@ fn set_mark<'x>(out: &mut Printer, name: &'x [u8], word: Keyword, from: &'x [u8]
 /// A field that is put into a name.
 fn load<'x>(out: &mut Printer, name: &'x [u8], from: &'x [u8], field: &'x [u8]) -> Printed
     ensures { OnOk result
-        (Prints out.old out.new (set_then (SetName name.now (PlaceValue (PlaceOf from.now (Some field.now)))) [])) }
+        (Prints out.old out.new (set_then (SetName (bare name.now)
+        (PlaceValue (PlaceOf (bare from.now) (Some (bare field.now))))) [])) }
 {
     let (name, from, field) = (Piece::Name(name), Piece::Name(from), Piece::Name(field));
     out.tokens(&[name, ASSIGN, from, DOT, field])
@@ -68,8 +75,8 @@ fn load<'x>(out: &mut Printer, name: &'x [u8], from: &'x [u8], field: &'x [u8]) 
 fn store<'x>(out: &mut Printer, name: &'x [u8], field: &'x [u8], atom: Piece<'x>) -> Printed
     ensures { OnOk result
         (Prints out.old out.new
-        (NameToken name.now ∷ SymbolToken symbols.Dot ∷ NameToken field.now ∷ SymbolToken symbols.Assign ∷
-        kind_of atom.entry ∷ [])) }
+        (plain (NameToken name.now) ∷ plain (SymbolToken symbols.Dot) ∷ plain (NameToken field.now)
+        ∷ plain (SymbolToken symbols.Assign) ∷ piece_of atom.entry ∷ [])) }
 {
     out.tokens(&[Piece::Name(name), DOT, Piece::Name(field), ASSIGN, atom])
 }
@@ -104,8 +111,8 @@ fn set(out: &mut Printer, reach: Reach, prim: Prim) -> Printed
 
 /// What is put into an auxiliary field.
 fn ghost_value<'a>(reach: Reach<'a>, g: u16, v: GhostVal) -> Piece<'a>
-    ensures { ghost_value_then (ghost_value_tree reach.entry.file.now reach.entry.locals.now g v) [] ≡ kind_of result
-        ∷ [] }
+    ensures { kinds_of (ghost_value_then (ghost_value_tree reach.entry.file.now reach.entry.locals.now g v) [])
+        ≡ kind_of result ∷ [] }
 {
     match v {
         GhostVal::Value(v) => Piece::Name(value_name(reach.file, g, v)),
@@ -127,7 +134,8 @@ fn ghost_set(out: &mut Printer, reach: Reach, p: Var, g: u16, v: GhostVal) -> Pr
 
 /// A refresh into a pointer local.
 fn refresh_name<'x>(out: &mut Printer, name: &'x [u8], from: &'x [u8]) -> Printed
-    ensures { OnOk result (Prints out.old out.new (refresh_then (RefreshName name.now (PlaceOf from.now None)) [])) }
+    ensures { OnOk result (Prints out.old out.new (refresh_then
+        (RefreshName (bare name.now) (PlaceOf (bare from.now) None)) [])) }
 {
     out.tokens(&[Piece::Name(name), REFRESH, Piece::Name(from)])
 }
@@ -135,7 +143,8 @@ fn refresh_name<'x>(out: &mut Printer, name: &'x [u8], from: &'x [u8]) -> Printe
 /// A refresh of a field into a pointer local.
 fn refresh_load<'x>(out: &mut Printer, name: &'x [u8], from: &'x [u8], field: &'x [u8]) -> Printed
     ensures { OnOk result
-        (Prints out.old out.new (refresh_then (RefreshName name.now (PlaceOf from.now (Some field.now))) [])) }
+        (Prints out.old out.new (refresh_then (RefreshName (bare name.now)
+        (PlaceOf (bare from.now) (Some (bare field.now)))) [])) }
 {
     let (name, from, field) = (Piece::Name(name), Piece::Name(from), Piece::Name(field));
     out.tokens(&[name, REFRESH, from, DOT, field])
@@ -143,7 +152,8 @@ fn refresh_load<'x>(out: &mut Printer, name: &'x [u8], from: &'x [u8], field: &'
 
 /// A refresh into a field.
 fn refresh_store<'x>(out: &mut Printer, name: &'x [u8], field: &'x [u8], from: &'x [u8]) -> Printed
-    ensures { OnOk result (Prints out.old out.new (refresh_then (RefreshField name.now field.now from.now) [])) }
+    ensures { OnOk result (Prints out.old out.new (refresh_then
+        (RefreshField (bare name.now) (bare field.now) (bare from.now)) [])) }
 {
     let (name, field, from) = (Piece::Name(name), Piece::Name(field), Piece::Name(from));
     out.tokens(&[name, DOT, field, REFRESH, from])
@@ -164,14 +174,15 @@ fn relation(rel: Rel) -> Symbol
 /// A comparison of a name with a token.
 fn compare<'x>(out: &mut Printer, name: &'x [u8], symbol: Symbol, atom: Piece<'x>) -> Printed
     ensures { OnOk result
-        (Prints out.old out.new (NameToken name.now ∷ SymbolToken symbol ∷ kind_of atom.entry ∷ [])) }
+        (Prints out.old out.new (plain (NameToken name.now) ∷ plain (SymbolToken symbol) ∷ piece_of atom.entry
+        ∷ [])) }
 {
     out.tokens(&[Piece::Name(name), Piece::Sign(symbol), atom])
 }
 
 /// A word and a name.
 fn word_name<'x>(out: &mut Printer, word: Keyword, name: &'x [u8]) -> Printed
-    ensures { OnOk result (Prints out.old out.new (WordToken word ∷ NameToken name.now ∷ [])) }
+    ensures { OnOk result (Prints out.old out.new (plain (WordToken word) ∷ plain (NameToken name.now) ∷ [])) }
 {
     out.tokens(&[Piece::Word(word), Piece::Name(name)])
 }
@@ -204,7 +215,7 @@ fn test(out: &mut Printer, reach: Reach, prim: Prim) -> Printed
 /// An assumption.
 fn assume(out: &mut Printer, reach: Reach, prim: Prim) -> Printed
     ensures { OnOk result
-        (Prints out.old out.new (WordToken words.Assume ∷ test_then
+        (Prints out.old out.new (plain (WordToken words.Assume) ∷ test_then
         (test_tree reach.entry.file.now reach.entry.locals.now prim) [])) }
 {
     out.token(Piece::Word(Keyword::Assume))?;
@@ -240,8 +251,8 @@ fn primitive(out: &mut Printer, reach: Reach, prim: Prim) -> Printed
 /// The primitives of an atomic block, each with its semicolon.
 pub fn primitive_lines(out: &mut Printer, reach: Reach, prims: &[Prim]) -> Printed
     ensures { OnOk result
-        (Prints out.old out.new (each_then primitive_line_then (map
-        (primitive_tree reach.entry.file.now reach.entry.locals.now) prims.now) [])) }
+        (Prints out.old out.new (each_then (placed_then primitive_line_then) (map
+        (λ k. bare (primitive_tree reach.entry.file.now reach.entry.locals.now k)) prims.now) [])) }
 {
     for prim in prims {
         primitive_line(out, reach, *prim)?;
@@ -273,7 +284,7 @@ pub fn initial_line(out: &mut Printer, file: &File, prim: Prim) -> Printed
 
 /// A pointer variable, or null.
 fn name_or_null<'a>(reach: Reach<'a>, q: Option<Var>) -> Piece<'a>
-    ensures { name_or_null_then (name_or_null reach.entry.file.now reach.entry.locals.now q) []
+    ensures { kinds_of (name_or_null_then (name_or_null reach.entry.file.now reach.entry.locals.now q) [])
         ≡ kind_of result ∷ [] }
 {
     match q {

@@ -1,6 +1,6 @@
 // The parts of a file in the grammar's order.
-ghost use Rattle.std.specs.Prelude.{◌≡◌, IfOk, OnOk};
-ghost use Rattle.plc_syntax.specs.Trees.{file_tokens};
+ghost use Rattle.std.specs.Prelude.{◌≡◌, [], IfOk, OnOk};
+ghost use Rattle.plc_syntax.specs.Trees.{file_then};
 ghost use Rattle.plc_print.specs.Canonical.{canonical_tree};
 ghost use Rattle.plc_print.specs.Pieces.{Prints};
 ghost use Rattle.plc_print.specs.Text.{canonical_text};
@@ -26,7 +26,7 @@ fn parts(
     outlined: &Outline,
 ) -> Printed
     ensures { OnOk result (Prints out.old out.new
-        (file_tokens (canonical_tree (record { file = file.now; observer = observer; outline = outlined.now })))) }
+        (file_then (canonical_tree (record { file = file.now; observer = observer; outline = outlined.now })) [])) }
 {
     structure(out, file)?;
     shared_pointers(out, file, file.shared.as_slice())?;

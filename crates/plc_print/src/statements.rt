@@ -8,10 +8,11 @@ ghost use Rattle.plc_lex.specs.declared.token.Symbol.TheVariants as symbols;
 ghost use Rattle.plc_lex.specs.declared.token.Keyword.TheVariants as words;
 ghost use Rattle.plc_syntax.specs.Trees.{AtomicStatement, CallStatement, LabelStatement, LoopStatement, maybe_then};
 ghost use Rattle.plc_syntax.specs.Trees.{argument_then, during_then, statement_then, statements_then, else_then};
-ghost use Rattle.plc_syntax.specs.Trees.{or_then};
+ghost use Rattle.plc_syntax.specs.Trees.{or_then, plain};
 ghost use Rattle.plc_print.specs.Canonical.{primitive_tree, argument_tree, else_block, choice_tree};
 ghost use Rattle.plc_print.specs.Canonical.{statement_tree, block_tree, blocks_tree};
 ghost use Rattle.plc_lang.specs.Names.{function_name, label_name};
+ghost use Rattle.plc_print.specs.Outlines.{bare};
 ghost use Rattle.plc_print.specs.Pieces.{Prints};
 
 use crate::names::Reach;
@@ -44,7 +45,8 @@ fn argument(out: &mut Printer, reach: Reach, arg: Arg, active: bool) -> Printed
 /// The label between a call and its return.
 fn during(out: &mut Printer, reach: Reach, label: Option<u16>) -> Printed
     ensures { OnOk result
-        (Prints out.old out.new (maybe_then during_then (option_map (label_name reach.entry.file.now) label) [])) }
+        (Prints out.old out.new (maybe_then during_then (option_map
+        (λ l. bare (label_name reach.entry.file.now l)) label) [])) }
 {
     match label {
         None => Ok(()),
@@ -65,9 +67,9 @@ fn call(
     label: Option<u16>,
 ) -> Printed
     ensures { OnOk result
-        (Prints out.old out.new (statement_then (CallStatement (function_name reach.entry.file.now func)
+        (Prints out.old out.new (statement_then (CallStatement (bare (function_name reach.entry.file.now func))
         (argument_tree reach.entry.file.now reach.entry.locals.now arg active) (option_map
-        (label_name reach.entry.file.now) label)) [])) }
+        (λ l. bare (label_name reach.entry.file.now l)) label)) [])) }
 {
     out.tokens(&[Piece::Name(function_name(reach.file, func)), OPEN])?;
     argument(out, reach, arg, active)?;
@@ -80,7 +82,7 @@ fn call(
 fn atomic(out: &mut Printer, reach: Reach, prims: &[Prim]) -> Printed
     ensures { OnOk result
         (Prints out.old out.new (statement_then (AtomicStatement (map
-        (primitive_tree reach.entry.file.now reach.entry.locals.now) prims.now)) [])) }
+        (λ k. bare (primitive_tree reach.entry.file.now reach.entry.locals.now k)) prims.now)) [])) }
 {
     out.tokens(&[Piece::Word(Keyword::Atomic), BEGIN])?;
     primitive_lines(out, reach, prims)?;
@@ -89,14 +91,15 @@ fn atomic(out: &mut Printer, reach: Reach, prims: &[Prim]) -> Printed
 
 /// A statement that is a word and its semicolon.
 fn word(out: &mut Printer, word: Keyword) -> Printed
-    ensures { OnOk result (Prints out.old out.new (WordToken word ∷ SymbolToken symbols.Semicolon ∷ [])) }
+    ensures { OnOk result
+        (Prints out.old out.new (plain (WordToken word) ∷ plain (SymbolToken symbols.Semicolon) ∷ [])) }
 {
     out.tokens(&[Piece::Word(word), SEMICOLON])
 }
 
 /// A label.
 fn label(out: &mut Printer, name: &[u8]) -> Printed
-    ensures { OnOk result (Prints out.old out.new (statement_then (LabelStatement name.now) [])) }
+    ensures { OnOk result (Prints out.old out.new (statement_then (LabelStatement (bare name.now)) [])) }
 {
     out.tokens(&[Piece::Word(Keyword::Label), Piece::Name(name), SEMICOLON])
 }
@@ -184,8 +187,9 @@ fn choose(out: &mut Printer, reach: Reach, blocks: &[Block]) -> Printed
 #[cycle(statement)]
 fn or_block(out: &mut Printer, reach: Reach, block: &Block) -> Printed
     ensures { OnOk result
-        (Prints out.old out.new (WordToken words.Or ∷ SymbolToken symbols.OpenBrace ∷ statements_then
-        (block_tree reach.entry.file.now reach.entry.locals.now block.now) (SymbolToken symbols.CloseBrace ∷ []))) }
+        (Prints out.old out.new (plain (WordToken words.Or) ∷ plain (SymbolToken symbols.OpenBrace) ∷ statements_then
+        (block_tree reach.entry.file.now reach.entry.locals.now block.now)
+        (plain (SymbolToken symbols.CloseBrace) ∷ []))) }
 {
     out.token(OR)?;
     braced(out, reach, block)
@@ -219,8 +223,9 @@ fn repeat(out: &mut Printer, reach: Reach, block: &Block) -> Printed
 #[cycle(statement)]
 fn braced(out: &mut Printer, reach: Reach, block: &Block) -> Printed
     ensures { OnOk result
-        (Prints out.old out.new (SymbolToken symbols.OpenBrace ∷ statements_then
-        (block_tree reach.entry.file.now reach.entry.locals.now block.now) (SymbolToken symbols.CloseBrace ∷ []))) }
+        (Prints out.old out.new (plain (SymbolToken symbols.OpenBrace) ∷ statements_then
+        (block_tree reach.entry.file.now reach.entry.locals.now block.now)
+        (plain (SymbolToken symbols.CloseBrace) ∷ []))) }
 {
     out.token(BEGIN)?;
     statements(out, reach, block)?;

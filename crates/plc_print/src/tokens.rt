@@ -1,7 +1,7 @@
 // A form that is a few tokens is printed by one call, as a list of them: so the table of the forms is a
 // table of such lists, and what a form prints is seen at once.
 ghost use Rattle.std.specs.Prelude.{◌≡◌, ◌++◌, ◌∷◌, [], OnOk, decimal, map};
-ghost use Rattle.plc_print.specs.Pieces.{Prints, kind_of};
+ghost use Rattle.plc_print.specs.Pieces.{Prints, piece_of};
 ghost use Rattle.plc_print.specs.Text.{after_symbol};
 
 use plc_lex::{Keyword, Symbol, symbol_text, word_text};
@@ -106,7 +106,7 @@ impl Printer {
 
     /// One token.
     pub fn token(&mut self, piece: Piece) -> Printed
-        ensures { OnOk result (Prints self.old self.new (kind_of piece.entry ∷ [])) }
+        ensures { OnOk result (Prints self.old self.new (piece_of piece.entry ∷ [])) }
     {
         match piece {
             Piece::Word(word) => self.put(word_text(word), b' '),
@@ -118,7 +118,7 @@ impl Printer {
 
     /// Tokens one after the other.
     pub fn tokens(&mut self, pieces: &[Piece]) -> Printed
-        ensures { OnOk result (Prints self.old self.new (map kind_of pieces.now)) }
+        ensures { OnOk result (Prints self.old self.new (map piece_of pieces.now)) }
     {
         for piece in pieces {
             self.token(*piece)?;

@@ -1,3 +1,4 @@
+pub mod Alike
 pub mod Sequence
 pub mod Holds
 pub mod Limits

@@ -1,10 +1,7 @@
 -- Loops over the parts of a tree: what was made of the parts before and the parts that are left say together what all
 -- of them come to.
-use Rattle.std.proofs.Common.{◌≡◌, ◌∙◌, ◌+◌, ◌-◌, ◌<◌, ◌≤◌, ℕ, suc, List, [], ◌∷◌, drop, length, get_or, map, Result, Ok, Err}
+use Rattle.std.proofs.Common.{◌≡◌, ◌∙◌, ◌+◌, ◌<◌, ◌≤◌, ℕ, suc, List, [], ◌∷◌, drop, length, get_or, Result, Ok, Err}
 use Rattle.std.proofs.Common.{refl, sym, ap, arith}
-use Rattle.std.specs.List.{sum_by}
-use Rattle.std.proofs.lemmas.List.{length-map, length-drop}
-use Rattle.std.proofs.lemmas.List.Sums.{sum_by-cons}
 use Rattle.std.proofs.Math.Seq.{drop-cons}
 use Rattle.std.proofs.Math.ListN.{drop_of_length-le}
 use Rattle.plc_scope.specs.declared.fault.ParseFault.{ParseFault}
@@ -71,43 +68,3 @@ module _ {S Y X O A : Type 0} (all : S → List Y → Result O ParseFault) (one 
   pub made : (s : S) (ys : List Y) (n : ℕ) (a : A) (total : Result O ParseFault) → length ys ≤ n
       → ahead a (all s (drop n ys)) ≡ total → total ≡ ahead a (all s [])
   made s ys n a total l so_far = sym so_far ∙ ap (λ zs. ahead a (all s zs)) (drop_of_length-le ys l)
-
--- ---- the size of the parts that are left, and their number
-
-module _ {X Y : Type 0} (size : X → ℕ) (tree : Y → X) where
-  pub size_turn : (ys : List Y) (n : ℕ) (y d : Y) → y ≡ get_or ys n d → n < length ys
-      → sum_by size (map tree (drop n ys)) ≡ size (tree y) + sum_by size (map tree (drop (n + 1) ys))
-  size_turn ys n y d e l = ap (λ zs. sum_by size (map tree zs)) (left_at ys n y d e l)
-      ∙ sum_by-cons size (tree y) (map tree (drop (n + 1) ys))
-
-  -- where there is room for what is left, there is room for the next part
-  pub size_fits : (at bound : ℕ) (ys : List Y) (n : ℕ) (y d : Y) → y ≡ get_or ys n d → n < length ys
-      → at + sum_by size (map tree (drop n ys)) < bound → at + size (tree y) < bound
-  size_fits at bound ys n y d e l h = let left = size_turn ys n y d e l in omega (arith, left, h)
-
-  size_some : (least : ℕ) → ((x : X) → least ≤ size x) → (zs : List Y) → 0 < length zs
-      → least ≤ sum_by size (map tree zs)
-  size_some least each [] l = absurd (omega arith)
-  size_some least each (z ∷ zs) l =
-      let all = sum_by-cons size (tree z) (map tree zs) in
-      let one = each (tree z) in
-      omega (arith, all, one)
-
-  -- where a part is left, so much is
-  pub size_least : (least : ℕ) → ((x : X) → least ≤ size x) → (ys : List Y) (n : ℕ) → n < length ys
-      → least ≤ sum_by size (map tree (drop n ys))
-  size_least least each ys n l = size_some least each (drop n ys) (omega (arith, length-drop n ys))
-
-  pub size_end : (ys : List Y) (n : ℕ) → length ys ≤ n → sum_by size (map tree (drop n ys)) ≡ 0
-  size_end ys n l = ap (λ zs. sum_by size (map tree zs)) (drop_of_length-le ys l)
-
-module _ {X Y : Type 0} (tree : Y → X) where
-  count_left : (ys : List Y) (n : ℕ) → length (map tree (drop n ys)) ≡ length ys - n
-  count_left ys n = length-map (drop n ys) tree ∙ length-drop n ys
-
-  pub count_turn : (ys : List Y) (n : ℕ) → n < length ys
-      → length (map tree (drop n ys)) ≡ 1 + length (map tree (drop (n + 1) ys))
-  count_turn ys n l = omega (arith, count_left ys n, count_left ys (n + 1))
-
-  pub count_end : (ys : List Y) (n : ℕ) → length ys ≤ n → length (map tree (drop n ys)) ≡ 0
-  count_end ys n l = omega (arith, count_left ys n)

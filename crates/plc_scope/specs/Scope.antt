@@ -12,6 +12,7 @@ use Rattle.plc_lang.specs.declared.syntax.Local.{Local}
 use Rattle.plc_lang.specs.declared.syntax.Var.{Var}
 use Rattle.plc_lang.specs.declared.syntax.Var.TheVariants.{Shared as SharedVar, Local as LocalVar}
 use Rattle.plc_lang.specs.Numbering.{pointer_number, data_number}
+use Rattle.plc_syntax.specs.Trees.{Text, Placed}
 use Rattle.plc_scope.specs.declared.fault.ParseFault.{ParseFault}
 use Rattle.plc_scope.specs.declared.fault.ParseFault.TheVariants as faults
 use Rattle.plc_scope.specs.declared.scope.Scope.{Scope}
@@ -58,8 +59,8 @@ if_new None at x = Ok x
 if_new (Some i) at x = Err (faults.Duplicate at)
 
 -- a name that is declared for the whole file
-abbrev pub declared : Scope → List ℕ → ℕ → Binding → Result Scope ParseFault
-declared s name at binding = if_new (place_of name s.names.names) at (with_name s name binding)
+abbrev pub declared : Scope → Placed Text → Binding → Result Scope ParseFault
+declared s n binding = if_new (place_of n.value s.names.names) n.at (with_name s n.value binding)
 
 -- whether a name is a local of the present operation
 abbrev pub has_local : List Local → ℕ → Bool
@@ -79,10 +80,10 @@ may_name_local (Some (Value g v)) b = false
 may_name_local None b = false
 
 -- the number of a local's name, and the names with it
-abbrev pub local_number : Option ℕ → Scope → List ℕ → ℕ → Result (ℕ × Scope) ParseFault
-local_number None s name at = Ok (length s.names.names, with_name s name LocalOnly)
-local_number (Some i) s name at =
-    if may_name_local (slice_get s.bindings i) (has_local s.locals i) then Ok (i, s) else Err (faults.Duplicate at)
+abbrev pub local_number : Option ℕ → Scope → Placed Text → Result (ℕ × Scope) ParseFault
+local_number None s n = Ok (length s.names.names, with_name s n.value LocalOnly)
+local_number (Some i) s n =
+    if may_name_local (slice_get s.bindings i) (has_local s.locals i) then Ok (i, s) else Err (faults.Duplicate n.at)
 
 -- one more local
 abbrev pub with_local : Scope → ℕ → Bool → Bool → Scope
@@ -93,10 +94,10 @@ with_local s number is_pointer is_parameter =
 abbrev pub with_label : Scope → ℕ → Scope
 with_label s number = record s { labels = s.labels ++ number ∷ [] }
 
--- a label at its name, which is new as any name of the file; it has the number of the labels before
-abbrev pub declared_label : Scope → List ℕ → ℕ → Result Scope ParseFault
-declared_label s name at = do
-  t ← declared s name at Taken
+-- a label, which is new as any name of the file; it has the number of the labels before
+abbrev pub declared_label : Scope → Placed Text → Result Scope ParseFault
+declared_label s n = do
+  t ← declared s n Taken
   Ok (with_label t (length s.names.names))
 
 -- after an operation
@@ -111,16 +112,15 @@ most_locals = most limits.Locals
 abbrev pub local_limit : {A : Type 0} → Scope → Result A ParseFault → Result A ParseFault
 local_limit s next = if length s.locals == most_locals then Err (faults.Limit limits.Locals (most_locals + 1)) else next
 
--- a local at its name; the limit's place is the first token of its declaration, so a parameter is first asked whether
--- it is new
-unfoldable pub declared_local : Scope → List ℕ → ℕ → Bool → Result Scope ParseFault
-declared_local s name at is_pointer = local_limit s
-    (local_number (place_of name s.names.names) s name at >>= λ x. Ok (with_local x.1 x.0 is_pointer false))
+-- a local; the limit's place is the first token of its declaration, so a parameter is first asked whether it is new
+unfoldable pub declared_local : Scope → Placed Text → Bool → Result Scope ParseFault
+declared_local s n is_pointer = local_limit s
+    (local_number (place_of n.value s.names.names) s n >>= λ x. Ok (with_local x.1 x.0 is_pointer false))
 
 -- a parameter is its name alone, so a name that is there is the fault before the limit
-unfoldable pub declared_parameter : Scope → List ℕ → ℕ → Result Scope ParseFault
-declared_parameter s name at =
-    local_number (place_of name s.names.names) s name at >>= λ x. local_limit s (Ok (with_local x.1 x.0 false true))
+unfoldable pub declared_parameter : Scope → Placed Text → Result Scope ParseFault
+declared_parameter s n =
+    local_number (place_of n.value s.names.names) s n >>= λ x. local_limit s (Ok (with_local x.1 x.0 false true))
 
 -- ---- uses
 
@@ -169,12 +169,12 @@ role_found ls (OfFile binding) = binding_role binding
 unfoldable pub role_of : Scope → List ℕ → Option Role
 role_of s name = option_and_then (role_found s.locals) (found s s.locals name)
 
--- a name at a place has to have a declaration in reach
+-- a name has to have a declaration in reach
 abbrev pub known : {K : Type 0} → ℕ → Option K → Result K ParseFault
 known at (Some k) = Ok k
 known at None = Err (faults.Undeclared at)
 
--- a name at a place has to be of the wanted kind
+-- a name has to be of the wanted kind
 abbrev pub if_fits : {A : Type 0} → ℕ → Option A → Result A ParseFault
 if_fits at (Some x) = Ok x
 if_fits at None = Err (faults.WrongSort at)
@@ -182,6 +182,10 @@ if_fits at None = Err (faults.WrongSort at)
 -- a name without a declaration is a fault before one of the wrong kind
 abbrev pub needed : {K A : Type 0} → (K → Option A) → ℕ → Option K → Result A ParseFault
 needed wanted at o = known at o >>= λ k. if_fits at (wanted k)
+
+-- what a name is in the present operation, told at the name
+abbrev pub role_at : Scope → Placed Text → Result Role ParseFault
+role_at s n = known n.at (role_of s n.value)
 
 -- a pointer variable
 abbrev pub as_pointer : Role → Option Var
@@ -254,46 +258,46 @@ as_value_of h _ = None
 abbrev pub as_thread : Role → Option ℕ
 as_thread r = None
 
--- the pointer variable that is named at a place
-unfoldable pub pointer_at : Scope → List ℕ → ℕ → Result Var ParseFault
-pointer_at s name at = needed as_pointer at (role_of s name)
+-- the pointer variable that a name is
+unfoldable pub pointer_at : Scope → Placed Text → Result Var ParseFault
+pointer_at s n = needed as_pointer n.at (role_of s n.value)
 
 -- the function, and whether it takes a pointer
-unfoldable pub function_at : Scope → List ℕ → ℕ → Result (FuncId × Bool) ParseFault
-function_at s name at = needed as_function at (role_of s name)
+unfoldable pub function_at : Scope → Placed Text → Result (FuncId × Bool) ParseFault
+function_at s n = needed as_function n.at (role_of s n.value)
 
 -- the auxiliary field, and whether it holds a thread
-unfoldable pub auxiliary_at : Scope → List ℕ → ℕ → Result (ℕ × Bool) ParseFault
-auxiliary_at s name at = needed as_auxiliary at (role_of s name)
+unfoldable pub auxiliary_at : Scope → Placed Text → Result (ℕ × Bool) ParseFault
+auxiliary_at s n = needed as_auxiliary n.at (role_of s n.value)
 
 -- the data local
-unfoldable pub data_at : Scope → List ℕ → ℕ → Result ℕ ParseFault
-data_at s name at = needed as_data at (role_of s name)
+unfoldable pub data_at : Scope → Placed Text → Result ℕ ParseFault
+data_at s n = needed as_data n.at (role_of s n.value)
 
 -- the function of a hazard pointer
-unfoldable pub protecting_at : Scope → List ℕ → ℕ → Result FuncId ParseFault
-protecting_at s name at = needed as_protecting at (role_of s name)
+unfoldable pub protecting_at : Scope → Placed Text → Result FuncId ParseFault
+protecting_at s n = needed as_protecting n.at (role_of s n.value)
 
 -- the pointer field
-unfoldable pub pointer_field_at : Scope → List ℕ → ℕ → Result FieldId ParseFault
-pointer_field_at s name at = needed as_pointer_field at (role_of s name)
+unfoldable pub pointer_field_at : Scope → Placed Text → Result FieldId ParseFault
+pointer_field_at s n = needed as_pointer_field n.at (role_of s n.value)
 
 -- a function of an epoch
-unfoldable pub without_pointer_at : Scope → List ℕ → ℕ → Result FuncId ParseFault
-without_pointer_at s name at = needed as_without_pointer at (role_of s name)
+unfoldable pub without_pointer_at : Scope → Placed Text → Result FuncId ParseFault
+without_pointer_at s n = needed as_without_pointer n.at (role_of s n.value)
 
 -- the data field
-unfoldable pub data_field_at : Scope → List ℕ → ℕ → Result FieldId ParseFault
-data_field_at s name at = needed as_data_field at (role_of s name)
+unfoldable pub data_field_at : Scope → Placed Text → Result FieldId ParseFault
+data_field_at s n = needed as_data_field n.at (role_of s n.value)
 
 -- the pointer local
-unfoldable pub pointer_local_at : Scope → List ℕ → ℕ → Result ℕ ParseFault
-pointer_local_at s name at = needed as_pointer_local at (role_of s name)
+unfoldable pub pointer_local_at : Scope → Placed Text → Result ℕ ParseFault
+pointer_local_at s n = needed as_pointer_local n.at (role_of s n.value)
 
 -- the value of an auxiliary field
-unfoldable pub value_at : Scope → ℕ → List ℕ → ℕ → Result ℕ ParseFault
-value_at s h name at = needed (as_value_of h) at (role_of s name)
+unfoldable pub value_at : Scope → ℕ → Placed Text → Result ℕ ParseFault
+value_at s h n = needed (as_value_of h) n.at (role_of s n.value)
 
 -- a name can't stand where a thread is wanted, but it has to be declared
-unfoldable pub thread_at : Scope → List ℕ → ℕ → Result ℕ ParseFault
-thread_at s name at = needed as_thread at (role_of s name)
+unfoldable pub thread_at : Scope → Placed Text → Result ℕ ParseFault
+thread_at s n = needed as_thread n.at (role_of s n.value)

@@ -1,8 +1,9 @@
 // What names mean: each is looked up among the locals in reach first, and then among the names of the
 // file. In an operation a name without a declaration is a fault before one of the wrong kind.
 ghost use Rattle.std.specs.Prelude.{◌≡◌, ◌<◌, ◌≤◌, length};
+ghost use Rattle.plc_syntax.specs.Views.{name_tree};
 ghost use Rattle.plc_scope.specs.Answers.{Gives};
-ghost use Rattle.plc_scope.specs.Scope.{most_locals, known, local_named, found_at, found, role_of};
+ghost use Rattle.plc_scope.specs.Scope.{most_locals, local_named, found_at, found, role_of, role_at};
 ghost use Rattle.plc_scope.specs.Scope.{binding_role, local_role, pointer_at, data_at, pointer_field_at, data_field_at};
 ghost use Rattle.plc_scope.specs.Scope.{pointer_local_at, function_at, protecting_at, without_pointer_at};
 ghost use Rattle.plc_scope.specs.Scope.{auxiliary_at, value_at, thread_at};
@@ -12,6 +13,7 @@ use crate::fault::{Meaning, ParseFault};
 use crate::scope::Scope;
 use plc_base::{FieldId, FuncId};
 use plc_lang::{Local, Var, data_number, pointer_number};
+use plc_syntax::Name;
 
 /// The first local with a name's number.
 fn local_named(locals: &[Local], number: u16) -> Option<Found>
@@ -55,12 +57,12 @@ fn local_role(locals: &[Local], place: u16, is_pointer: bool) -> Role
     }
 }
 
-// What a name at a place is, where only one kind of role can stand.
+// What a name is, where only one kind of role can stand.
 macro_rules! wanted {
-    ($scope:expr, $name:expr, $at:expr; $role:pat $(if $holds:expr)? => $found:expr) => {
-        match $scope.role($name, $at)? {
+    ($scope:expr, $name:expr; $role:pat $(if $holds:expr)? => $found:expr) => {
+        match $scope.role($name)? {
             $role $(if $holds)? => Ok($found),
-            _ => Err(ParseFault::WrongSort { at: $at }),
+            _ => Err(ParseFault::WrongSort { at: $name.at }),
         }
     };
 }
@@ -107,117 +109,118 @@ impl Scope {
         }
     }
 
-    /// What a name at a place is. `Undeclared` where it has no declaration in reach.
-    pub fn role(&self, name: &[u8], at: u32) -> Meaning<Role>
+    /// What a name is. `Undeclared` where it has no declaration in reach.
+    pub fn role(&self, name: Name) -> Meaning<Role>
         requires { length self.now.locals ≤ most_locals }
-        ensures { Gives (λ role. role) result (known at (role_of self.now name.now)) }
+        ensures { Gives (λ role. role) result (role_at self.now (name_tree name.entry)) }
     {
-        self.role_of(name).ok_or(ParseFault::Undeclared { at })
+        self.role_of(name.value)
+            .ok_or(ParseFault::Undeclared { at: name.at })
     }
 
-    /// The pointer variable that a name at a place is; `Undeclared`, or `WrongSort` for another thing.
+    /// The pointer variable that a name is; `Undeclared`, or `WrongSort` for another thing.
     #[tactic(auto, unfolding(crate::specs::Scope::pointer_at))]
-    pub fn pointer_at(&self, name: &[u8], at: u32) -> Meaning<Var>
+    pub fn pointer_at(&self, name: Name) -> Meaning<Var>
         requires { length self.now.locals ≤ most_locals }
-        ensures { Gives (λ variable. variable) result (pointer_at self.now name.now at) }
+        ensures { Gives (λ variable. variable) result (pointer_at self.now (name_tree name.entry)) }
     {
-        wanted! { self, name, at; Role::PointerVariable(variable) => variable }
+        wanted! { self, name; Role::PointerVariable(variable) => variable }
     }
 
-    /// The reclaimer function that a name at a place is, and whether it takes a pointer; `Undeclared`, or
+    /// The reclaimer function that a name is, and whether it takes a pointer; `Undeclared`, or
     /// `WrongSort` for another thing.
     #[tactic(auto, unfolding(crate::specs::Scope::function_at))]
-    pub fn function_at(&self, name: &[u8], at: u32) -> Meaning<(FuncId, bool)>
+    pub fn function_at(&self, name: Name) -> Meaning<(FuncId, bool)>
         requires { length self.now.locals ≤ most_locals }
-        ensures { Gives (λ x. (x.0, x.1)) result (function_at self.now name.now at) }
+        ensures { Gives (λ x. (x.0, x.1)) result (function_at self.now (name_tree name.entry)) }
     {
-        wanted! { self, name, at; Role::Function(function, takes_pointer) => (function, takes_pointer) }
+        wanted! { self, name; Role::Function(function, takes_pointer) => (function, takes_pointer) }
     }
 
-    /// The auxiliary field that a name at a place is, and whether it holds a thread; `Undeclared`, or
+    /// The auxiliary field that a name is, and whether it holds a thread; `Undeclared`, or
     /// `WrongSort` for another thing.
     #[tactic(auto, unfolding(crate::specs::Scope::auxiliary_at))]
-    pub fn auxiliary_at(&self, name: &[u8], at: u32) -> Meaning<(u16, bool)>
+    pub fn auxiliary_at(&self, name: Name) -> Meaning<(u16, bool)>
         requires { length self.now.locals ≤ most_locals }
-        ensures { Gives (λ x. (x.0, x.1)) result (auxiliary_at self.now name.now at) }
+        ensures { Gives (λ x. (x.0, x.1)) result (auxiliary_at self.now (name_tree name.entry)) }
     {
-        wanted! { self, name, at; Role::Auxiliary(field, of_threads) => (field, of_threads) }
+        wanted! { self, name; Role::Auxiliary(field, of_threads) => (field, of_threads) }
     }
 
-    /// The data local that a name at a place is; `Undeclared`, or `WrongSort` for another thing.
+    /// The data local that a name is; `Undeclared`, or `WrongSort` for another thing.
     #[tactic(auto, unfolding(crate::specs::Scope::data_at))]
-    pub fn data_at(&self, name: &[u8], at: u32) -> Meaning<u16>
+    pub fn data_at(&self, name: Name) -> Meaning<u16>
         requires { length self.now.locals ≤ most_locals }
-        ensures { Gives (λ local. local) result (data_at self.now name.now at) }
+        ensures { Gives (λ local. local) result (data_at self.now (name_tree name.entry)) }
     {
-        wanted! { self, name, at; Role::DataLocal(local) => local }
+        wanted! { self, name; Role::DataLocal(local) => local }
     }
 
     /// The function that sets a hazard pointer: it takes a pointer and isn't `retire`; `Undeclared`, or
     /// `WrongSort` for another thing.
     #[tactic(auto, unfolding(crate::specs::Scope::protecting_at))]
-    pub fn protecting_at(&self, name: &[u8], at: u32) -> Meaning<FuncId>
+    pub fn protecting_at(&self, name: Name) -> Meaning<FuncId>
         requires { length self.now.locals ≤ most_locals }
-        ensures { Gives (λ x. x) result (protecting_at self.now name.now at) }
+        ensures { Gives (λ x. x) result (protecting_at self.now (name_tree name.entry)) }
     {
-        wanted! { self, name, at; Role::Function(function, true) if !function.is_retire() => function }
+        wanted! { self, name; Role::Function(function, true) if !function.is_retire() => function }
     }
 
-    /// The pointer field that a name at a place is; `Undeclared`, or `WrongSort` for another thing.
+    /// The pointer field that a name is; `Undeclared`, or `WrongSort` for another thing.
     #[tactic(auto, unfolding(crate::specs::Scope::pointer_field_at))]
-    pub fn pointer_field_at(&self, name: &[u8], at: u32) -> Meaning<FieldId>
+    pub fn pointer_field_at(&self, name: Name) -> Meaning<FieldId>
         requires { length self.now.locals ≤ most_locals }
-        ensures { Gives (λ field. field) result (pointer_field_at self.now name.now at) }
+        ensures { Gives (λ field. field) result (pointer_field_at self.now (name_tree name.entry)) }
     {
-        wanted! { self, name, at; Role::PointerField(field) => field }
+        wanted! { self, name; Role::PointerField(field) => field }
     }
 
     /// The function that takes no pointer, such as those of an epoch; `Undeclared`, or `WrongSort` for
     /// another thing.
     #[tactic(auto, unfolding(crate::specs::Scope::without_pointer_at))]
-    pub fn without_pointer_at(&self, name: &[u8], at: u32) -> Meaning<FuncId>
+    pub fn without_pointer_at(&self, name: Name) -> Meaning<FuncId>
         requires { length self.now.locals ≤ most_locals }
-        ensures { Gives (λ x. x) result (without_pointer_at self.now name.now at) }
+        ensures { Gives (λ x. x) result (without_pointer_at self.now (name_tree name.entry)) }
     {
-        wanted! { self, name, at; Role::Function(function, false) => function }
+        wanted! { self, name; Role::Function(function, false) => function }
     }
 
-    /// The data field that a name at a place is; `Undeclared`, or `WrongSort` for another thing.
+    /// The data field that a name is; `Undeclared`, or `WrongSort` for another thing.
     #[tactic(auto, unfolding(crate::specs::Scope::data_field_at))]
-    pub fn data_field_at(&self, name: &[u8], at: u32) -> Meaning<FieldId>
+    pub fn data_field_at(&self, name: Name) -> Meaning<FieldId>
         requires { length self.now.locals ≤ most_locals }
-        ensures { Gives (λ field. field) result (data_field_at self.now name.now at) }
+        ensures { Gives (λ field. field) result (data_field_at self.now (name_tree name.entry)) }
     {
-        wanted! { self, name, at; Role::DataField(field) => field }
+        wanted! { self, name; Role::DataField(field) => field }
     }
 
-    /// The pointer local that a name at a place is; `Undeclared`, or `WrongSort` for another thing.
+    /// The pointer local that a name is; `Undeclared`, or `WrongSort` for another thing.
     #[tactic(auto, unfolding(crate::specs::Scope::pointer_local_at))]
-    pub fn pointer_local_at(&self, name: &[u8], at: u32) -> Meaning<u16>
+    pub fn pointer_local_at(&self, name: Name) -> Meaning<u16>
         requires { length self.now.locals ≤ most_locals }
-        ensures { Gives (λ x. x) result (pointer_local_at self.now name.now at) }
+        ensures { Gives (λ x. x) result (pointer_local_at self.now (name_tree name.entry)) }
     {
-        wanted! { self, name, at; Role::PointerVariable(Var::Local(local)) => local }
+        wanted! { self, name; Role::PointerVariable(Var::Local(local)) => local }
     }
 
-    /// The value that a name at a place is, of the auxiliary field with this number; `Undeclared`, or
+    /// The value that a name is, of the auxiliary field with this number; `Undeclared`, or
     /// `WrongSort` for another thing.
     #[tactic(auto, unfolding(crate::specs::Scope::value_at))]
-    pub fn value_at(&self, field: u16, name: &[u8], at: u32) -> Meaning<u16>
+    pub fn value_at(&self, field: u16, name: Name) -> Meaning<u16>
         requires { length self.now.locals ≤ most_locals }
-        ensures { Gives (λ x. x) result (value_at self.now field name.now at) }
+        ensures { Gives (λ x. x) result (value_at self.now field (name_tree name.entry)) }
     {
-        wanted! { self, name, at; Role::Value(of, value) if of == field => value }
+        wanted! { self, name; Role::Value(of, value) if of == field => value }
     }
 
     /// Where a thread is wanted no name can stand: `Undeclared`, or else `WrongSort`.
     #[tactic(auto, unfolding(crate::specs::Scope::thread_at))]
-    pub fn thread_at(&self, name: &[u8], at: u32) -> Meaning<u16>
+    pub fn thread_at(&self, name: Name) -> Meaning<u16>
         requires { length self.now.locals ≤ most_locals }
-        ensures { Gives (λ x. x) result (thread_at self.now name.now at) }
+        ensures { Gives (λ x. x) result (thread_at self.now (name_tree name.entry)) }
     {
         // Only its fault is wanted.
-        let _role = self.role(name, at)?;
-        Err(ParseFault::WrongSort { at })
+        let _role = self.role(name)?;
+        Err(ParseFault::WrongSort { at: name.at })
     }
 }

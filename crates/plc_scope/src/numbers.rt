@@ -13,14 +13,14 @@ use plc_lang::Num;
 use plc_syntax::Atom;
 
 /// The number that is put into a data field or compared with a data local.
-pub fn number(scope: &Scope, at: u32, atom: Atom) -> Meaning<Num>
+pub fn number(scope: &Scope, atom: Atom) -> Meaning<Num>
     requires { length scope.now.locals ≤ most_locals }
     ensures { (make : Num → Primitive) → Gives make result
-        (with_number scope.now at (atom_tree atom.entry) make) }
+        (with_number scope.now (atom_tree atom.entry) make) }
 {
     match atom {
-        Atom::Null => Err(ParseFault::WrongSort { at }),
-        Atom::Number(n) => Ok(Num::Lit(n)),
-        Atom::Name(name) => Ok(Num::Local(scope.data_at(name, at)?)),
+        Atom::Null(at) => Err(ParseFault::WrongSort { at }),
+        Atom::Number(n) => Ok(Num::Lit(n.value)),
+        Atom::Name(name) => Ok(Num::Local(scope.data_at(name)?)),
     }
 }

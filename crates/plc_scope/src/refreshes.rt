@@ -1,8 +1,7 @@
 // What refreshes and assignments to auxiliary fields mean: what is written is judged before what is
 // put into it.
-ghost use Rattle.std.specs.Prelude.{◌+◌, ◌<◌, ◌≤◌, ◌^◌, length};
-ghost use Rattle.plc_syntax.specs.Sizes.{place_size, refresh_size, ghost_set_size};
-ghost use Rattle.plc_syntax.specs.Views.{place_tree, refresh_tree, ghost_value_tree, ghost_set_tree};
+ghost use Rattle.std.specs.Prelude.{◌≤◌, length};
+ghost use Rattle.plc_syntax.specs.Views.{name_tree, place_tree, refresh_tree, ghost_value_tree, ghost_set_tree};
 ghost use Rattle.plc_scope.specs.Answers.{Gives};
 ghost use Rattle.plc_scope.specs.Primitives.{refresh_from, refresh_name_means, refresh_means};
 ghost use Rattle.plc_scope.specs.Primitives.{ghost_value_means, ghost_set_means};
@@ -11,46 +10,44 @@ ghost use Rattle.plc_scope.specs.Scope.{most_locals};
 use crate::fault::{Meaning, ParseFault};
 use crate::scope::Scope;
 use plc_lang::{GhostVal, Prim};
-use plc_syntax::{GhostSet, GhostValue, Place, Refresh};
+use plc_syntax::{GhostSet, GhostValue, Name, Place, Refresh};
 
 /// What a pointer local is refreshed from.
-fn refresh_from(scope: &Scope, p: u16, at: u32, place: Place) -> Meaning<Prim>
-    requires locals { length scope.now.locals ≤ most_locals }
-    requires place { at + place_size (place_tree place) < 2 ^ 32 }
-    ensures { Gives (λ k. k) result (refresh_from scope.now p at (place_tree place.entry)) }
+fn refresh_from(scope: &Scope, p: u16, place: Place) -> Meaning<Prim>
+    requires { length scope.now.locals ≤ most_locals }
+    ensures { Gives (λ k. k) result (refresh_from scope.now p (place_tree place.entry)) }
 {
-    let q = scope.pointer_at(place.name, at)?;
+    let q = scope.pointer_at(place.name)?;
     let Some(field) = place.field else {
         return Ok(Prim::Refresh { p, q });
     };
-    let f = scope.pointer_field_at(field, at + 2)?;
+    let f = scope.pointer_field_at(field)?;
     Ok(Prim::RefreshLoad { p, q, f })
 }
 
 /// The primitive of a refresh into a pointer local.
 #[tactic(auto, unfolding(crate::specs::Primitives::refresh_name_means))]
-pub fn refresh_into(scope: &Scope, at: u32, name: &[u8], place: Place) -> Meaning<Prim>
-    requires locals { length scope.now.locals ≤ most_locals }
-    requires place { at + 2 + place_size (place_tree place) < 2 ^ 32 }
-    ensures { Gives (λ k. k) result (refresh_name_means scope.now at name.now (place_tree place.entry)) }
+pub fn refresh_into(scope: &Scope, name: Name, place: Place) -> Meaning<Prim>
+    requires { length scope.now.locals ≤ most_locals }
+    ensures { Gives (λ k. k) result
+        (refresh_name_means scope.now (name_tree name.entry) (place_tree place.entry)) }
 {
-    let p = scope.pointer_local_at(name, at)?;
-    refresh_from(scope, p, at + 2, place)
+    let p = scope.pointer_local_at(name)?;
+    refresh_from(scope, p, place)
 }
 
 /// The primitive of a refresh into a pointer local or into a pointer field.
 #[tactic(auto, unfolding(crate::specs::Primitives::refresh_means))]
-pub fn refresh(scope: &Scope, at: u32, refresh: Refresh) -> Meaning<Prim>
-    requires locals { length scope.now.locals ≤ most_locals }
-    requires place { at + refresh_size (refresh_tree refresh) < 2 ^ 32 }
-    ensures { Gives (λ k. k) result (refresh_means scope.now at (refresh_tree refresh.entry)) }
+pub fn refresh(scope: &Scope, refresh: Refresh) -> Meaning<Prim>
+    requires { length scope.now.locals ≤ most_locals }
+    ensures { Gives (λ k. k) result (refresh_means scope.now (refresh_tree refresh.entry)) }
 {
     match refresh {
-        Refresh::Name(name, place) => refresh_into(scope, at, name, place),
+        Refresh::Name(name, place) => refresh_into(scope, name, place),
         Refresh::Field(name, field, from) => {
-            let p = scope.pointer_at(name, at)?;
-            let f = scope.pointer_field_at(field, at + 2)?;
-            let q = scope.pointer_at(from, at + 4)?;
+            let p = scope.pointer_at(name)?;
+            let f = scope.pointer_field_at(field)?;
+            let q = scope.pointer_at(from)?;
             Ok(Prim::RefreshStore { p, f, q })
         }
     }
@@ -63,31 +60,29 @@ fn ghost_value(
     in_init: bool,
     g: u16,
     of_threads: bool,
-    at: u32,
     value: GhostValue,
 ) -> Meaning<GhostVal>
     requires { length scope.now.locals ≤ most_locals }
     ensures { Gives (λ v. v) result
-        (ghost_value_means scope.now in_init g of_threads at (ghost_value_tree value.entry)) }
+        (ghost_value_means scope.now in_init g of_threads (ghost_value_tree value.entry)) }
 {
     match value {
-        GhostValue::Name(name) if of_threads => Ok(GhostVal::Value(scope.thread_at(name, at)?)),
-        GhostValue::Name(name) => Ok(GhostVal::Value(scope.value_at(g, name, at)?)),
-        GhostValue::Me if of_threads && !in_init => Ok(GhostVal::Me),
-        GhostValue::None if of_threads => Ok(GhostVal::None),
-        _ => Err(ParseFault::WrongSort { at }),
+        GhostValue::Name(name) if of_threads => Ok(GhostVal::Value(scope.thread_at(name)?)),
+        GhostValue::Name(name) => Ok(GhostVal::Value(scope.value_at(g, name)?)),
+        GhostValue::Me(_) if of_threads && !in_init => Ok(GhostVal::Me),
+        GhostValue::None(_) if of_threads => Ok(GhostVal::None),
+        GhostValue::Me(at) | GhostValue::None(at) => Err(ParseFault::WrongSort { at }),
     }
 }
 
 /// The primitive of an assignment to an auxiliary field, in `init` or in an operation.
 #[tactic(auto, unfolding(crate::specs::Primitives::ghost_set_means))]
-pub fn ghost_set(scope: &Scope, in_init: bool, at: u32, set: GhostSet) -> Meaning<Prim>
-    requires locals { length scope.now.locals ≤ most_locals }
-    requires place { at + ghost_set_size < 2 ^ 32 }
-    ensures { Gives (λ k. k) result (ghost_set_means scope.now in_init at (ghost_set_tree set.entry)) }
+pub fn ghost_set(scope: &Scope, in_init: bool, set: GhostSet) -> Meaning<Prim>
+    requires { length scope.now.locals ≤ most_locals }
+    ensures { Gives (λ k. k) result (ghost_set_means scope.now in_init (ghost_set_tree set.entry)) }
 {
-    let p = scope.pointer_at(set.name, at + 1)?;
-    let (g, of_threads) = scope.auxiliary_at(set.field, at + 3)?;
-    let v = ghost_value(scope, in_init, g, of_threads, at + 5, set.value)?;
+    let p = scope.pointer_at(set.name)?;
+    let (g, of_threads) = scope.auxiliary_at(set.field)?;
+    let v = ghost_value(scope, in_init, g, of_threads, set.value)?;
     Ok(Prim::Ghost { p, g, v })
 }

@@ -6,6 +6,7 @@
 // room, and says how much it took.
 ghost use Rattle.std.specs.Prelude.{◌≡◌, ◌<◌, IfOk, IfErr, OnErr, None, Ok, length, slice_get};
 ghost use Rattle.plc_base.specs.Names.{place_of};
+ghost use Rattle.plc_syntax.specs.Views.{name_tree};
 ghost use Rattle.plc_scope.specs.Answers.{Gives, HasRoom, GrowsBy, HasRoomForLocals, GrowsByLocals};
 ghost use Rattle.plc_scope.specs.Scope.{first_scope, if_new, declared, declared_label, declared_local};
 ghost use Rattle.plc_scope.specs.Reused.{reused};
@@ -17,6 +18,7 @@ use crate::binding::Binding;
 use crate::fault::ParseFault;
 use plc_base::{FuncId, Items, MOST_NAMES, NameFault, Names, What1};
 use plc_lang::Local;
+use plc_syntax::{Name, Placed};
 use std::alloc::Global;
 
 /// The names in reach.
@@ -33,17 +35,17 @@ pub struct Scope {
 }
 
 /// Adds a name that differs from all before, and answers its number. `Duplicate` where it doesn't.
-pub fn add_name(names: &mut Names, name: &[u8], at: u32) -> Result<u16, ParseFault>
+pub fn add_name(names: &mut Names, name: Name) -> Result<u16, ParseFault>
     requires { length names.old.names < names.old.limit }
     ensures number { IfOk result (λ number. number ≡ length names.old.names) }
-    ensures added { IfOk result (λ _. names.new ≡ with_last names.old name.now) }
-    ensures read { Gives (λ _. names.new) result
-        (if_new (place_of name.now names.old.names) at (with_last names.old name.now)) }
+    ensures added { IfOk result (λ _. names.new ≡ with_last names.old name.entry.value.now) }
+    ensures read { Gives (λ _. names.new) result (if_new (place_of name.entry.value.now names.old.names)
+        name.entry.at (with_last names.old name.entry.value.now)) }
     ensures err { OnErr result (names.new ≡ names.old) }
 {
-    match names.add(name) {
+    match names.add(name.value) {
         Ok(number) => Ok(number),
-        Err(NameFault::Duplicate { .. }) => Err(ParseFault::Duplicate { at }),
+        Err(NameFault::Duplicate { .. }) => Err(ParseFault::Duplicate { at: name.at }),
         Err(NameFault::Full { .. }) => unreachable!(),
         Err(NameFault::Memory) => Err(ParseFault::Memory),
     }
@@ -68,23 +70,25 @@ impl Scope {
             labels: Items::new(alloc),
             names: Names::new(alloc, MOST_NAMES),
         };
-        scope.declare(b"retire", 0, Binding::Function(FuncId::RETIRE, true))?;
+        let value: &[u8] = b"retire";
+        let retire = Placed { at: 0, value };
+        scope.declare(retire, Binding::Function(FuncId::RETIRE, true))?;
         Ok(scope)
     }
 
     /// Declares a name that differs from all before, and answers its number. `Duplicate` where it
     /// doesn't. After a refusal the scope is as it was, as after each refusal below.
-    pub fn declare(&mut self, name: &[u8], at: u32, binding: Binding) -> Result<u16, ParseFault>
+    pub fn declare(&mut self, name: Name, binding: Binding) -> Result<u16, ParseFault>
         requires { HasRoom self.old 1 }
         ensures number { IfOk result (λ number. number ≡ length self.old.names.names) }
-        ensures read { Gives (λ _. self.new) result (declared self.old name.now at binding) }
+        ensures read { Gives (λ _. self.new) result (declared self.old (name_tree name.entry) binding) }
         ensures names { IfOk result (λ _. GrowsBy self.old self.new 1) }
         ensures locals { self.new.locals ≡ self.old.locals }
         ensures err { OnErr result (self.new ≡ self.old) }
     {
         let count = self.bindings.len();
         self.bindings.push(binding)?;
-        match add_name(&mut self.names, name, at) {
+        match add_name(&mut self.names, name) {
             Ok(number) => Ok(number),
             Err(fault) => {
                 self.bindings.truncate(count);
@@ -94,9 +98,9 @@ impl Scope {
     }
 
     /// Declares a label, which is as new as any name of the file. `Duplicate` where it isn't.
-    pub fn declare_label(&mut self, name: &[u8], at: u32) -> Result<(), ParseFault>
+    pub fn declare_label(&mut self, name: Name) -> Result<(), ParseFault>
         requires { HasRoom self.old 1 }
-        ensures read { Gives (λ _. self.new) result (declared_label self.old name.now at) }
+        ensures read { Gives (λ _. self.new) result (declared_label self.old (name_tree name.entry)) }
         ensures names { IfOk result (λ _. GrowsBy self.old self.new 1) }
         ensures locals { self.new.locals ≡ self.old.locals }
         ensures err { OnErr result (self.new ≡ self.old) }
@@ -104,7 +108,7 @@ impl Scope {
         let count = self.labels.len();
         let number = self.names.len();
         self.labels.push(number)?;
-        match self.declare(name, at, Binding::Taken) {
+        match self.declare(name, Binding::Taken) {
             Ok(_) => Ok(()),
             Err(fault) => {
                 self.labels.truncate(count);
@@ -124,13 +128,14 @@ impl Scope {
     }
 
     /// The number of a name that a local of another operation has, or none where the name is new.
-    fn reused(&self, name: &[u8], at: u32) -> Result<Option<u16>, ParseFault>
-        ensures { Gives (λ number. number) result (reused (place_of name.now self.now.names.names) self.now at) }
+    fn reused(&self, name: Name) -> Result<Option<u16>, ParseFault>
+        ensures { Gives (λ number. number) result
+            (reused (place_of name.entry.value.now self.now.names.names) self.now name.entry.at) }
     {
-        match self.names.find(name) {
+        match self.names.find(name.value) {
             None => Ok(None),
             Some(number) if self.may_name_local(number) => Ok(Some(number)),
-            Some(_) => Err(ParseFault::Duplicate { at }),
+            Some(_) => Err(ParseFault::Duplicate { at: name.at }),
         }
     }
 
@@ -149,17 +154,17 @@ impl Scope {
     }
 
     /// A local with a new name.
-    fn add_new_local(&mut self, name: &[u8], pointer: bool, param: bool) -> Result<(), ParseFault>
+    fn add_new_local(&mut self, name: Name, pointer: bool, param: bool) -> Result<(), ParseFault>
         requires room { HasRoom self.old 1 }
-        requires new { place_of name.now self.old.names.names ≡ None }
-        ensures read { Gives (λ _. self.new) result
-            (Ok (with_local (with_name self.old name.now LocalOnly) (length self.old.names.names) pointer param)) }
+        requires new { place_of name.value.now self.old.names.names ≡ None }
+        ensures read { Gives (λ _. self.new) result (Ok (with_local
+            (with_name self.old name.entry.value.now LocalOnly) (length self.old.names.names) pointer param)) }
         ensures err { OnErr result (self.new ≡ self.old) }
     {
         let count = self.locals.len();
         let number = self.names.len();
         self.add_local(number, pointer, param)?;
-        match self.declare(name, 0, Binding::LocalOnly) {
+        match self.declare(name, Binding::LocalOnly) {
             Ok(_) => Ok(()),
             Err(fault) => {
                 self.locals.truncate(count);
@@ -171,16 +176,16 @@ impl Scope {
     /// Declares a local of the present operation. `Limit` where it has 32 before; `Duplicate` where
     /// the name is not new, but for a local of another operation.
     #[tactic(auto, unfolding(crate::specs::Scope::declared_local))]
-    pub fn declare_local(&mut self, name: &[u8], at: u32, pointer: bool) -> Result<(), ParseFault>
+    pub fn declare_local(&mut self, name: Name, pointer: bool) -> Result<(), ParseFault>
         requires { HasRoomForLocals self.old }
-        ensures read { Gives (λ _. self.new) result (declared_local self.old name.now at pointer) }
+        ensures read { Gives (λ _. self.new) result (declared_local self.old (name_tree name.entry) pointer) }
         ensures names { IfOk result (λ _. GrowsByLocals self.old self.new) }
         ensures err { OnErr result (self.new ≡ self.old) }
     {
         if self.locals.len() == What1::Locals.most() as usize {
             return Err(ParseFault::past(What1::Locals));
         }
-        match self.reused(name, at)? {
+        match self.reused(name)? {
             Some(number) => self.add_local(number, pointer, false),
             None => self.add_new_local(name, pointer, false),
         }
@@ -189,13 +194,13 @@ impl Scope {
     /// Declares a parameter of the present operation. `Duplicate` where the name is not new, but for a
     /// local of another operation, and else `Limit` where the operation has as many locals as it may.
     #[tactic(auto, unfolding(crate::specs::Scope::declared_parameter))]
-    pub fn declare_parameter(&mut self, name: &[u8], at: u32) -> Result<(), ParseFault>
+    pub fn declare_parameter(&mut self, name: Name) -> Result<(), ParseFault>
         requires { HasRoomForLocals self.old }
-        ensures read { Gives (λ _. self.new) result (declared_parameter self.old name.now at) }
+        ensures read { Gives (λ _. self.new) result (declared_parameter self.old (name_tree name.entry)) }
         ensures names { IfOk result (λ _. GrowsByLocals self.old self.new) }
         ensures err { OnErr result (self.new ≡ self.old) }
     {
-        let number = self.reused(name, at)?;
+        let number = self.reused(name)?;
         if self.locals.len() == What1::Locals.most() as usize {
             return Err(ParseFault::past(What1::Locals));
         }

@@ -5,9 +5,10 @@ use Rattle.std.proofs.Math.Nat.{le-max_left, le-max_right, max-le}
 use Rattle.plc_lex.specs.declared.token.TokenKind.{TokenKind}
 use Rattle.plc_lex.specs.declared.token.TokenKind.TheVariants.{Word, Name, Number, Symbol}
 use Rattle.plc_lex.specs.declared.token.Symbol.TheVariants.{OpenBrace, CloseBrace, CloseParen, Semicolon}
-use Rattle.plc_syntax.specs.Trees.{Text, each_then, maybe_then, comma_name_then, names_then, FieldTree, PointerField, DataField, field_then, shared_then, FunctionTree, Declares, function_then, WatchTree, UseHazard, UseEpoch, watch_then, OneOf, OfThreads, GhostTree, Auxiliary, ghost_then, PlaceTree, PlaceOf, place_then, AtomTree, NullAtom, NumberAtom, NameAtom, atom_then, ValueTree, NullValue, NewValue, NumberValue, MarkValue, UnmarkValue, PlaceValue, value_then, SetTree, SetName, SetField, set_then, RefreshTree, RefreshName, RefreshField, refresh_then, GhostValueTree, NameGhost, MeGhost, NoneGhost, ghost_value_then, GhostSetTree, SetGhost, ghost_set_then, InitialTree, InitialSet, InitialGhost, initial_then, init_then, TestTree, MarkedTest, UnmarkedTest, Compares, SameAs, OtherThan, LessThan, NotLessThan, test_then, name_or_null_then, ConditionTree, TestCondition, RefreshCondition, CasCondition, condition_then, PrimitiveTree, SetPrimitive, RefreshPrimitive, GhostPrimitive, ActivePrimitive, AssumePrimitive, SkipPrimitive, primitive_then, primitive_line_then, ArgumentTree, NoArgument, NullArgument, NameArgument, ActiveArgument, argument_then, during_then, StatementTree, PrimitiveStatement, AtomicStatement, CallStatement, IfStatement, ChooseStatement, LoopStatement, BreakStatement, ReturnStatement, LabelStatement, BlockTree, NoStatement, Then, ElseTree, NoElse, ElseBlock, OrTree, NoOr, OrBlock, statement_then, statements_then, else_then, or_then, parameters_then, OpTree, Operates, op_then, TermTree, PlaceTerm, NullTerm, NumberTerm, MeTerm, NoneTerm, term_then, FlagTree, RetiredFlag, MarkedFlag, flag_then, LiteralTree, FlagLiteral, NotLiteral, EqualityLiteral, literal_then, BoundTree, NoBound, AllOf, bound_then, or_literal_then, ClauseTree, Claims, clause_then, ItemTree, InvariantItem, OverItem, AtItem, item_then, depth_then, OutlineTree, Outlined, outline_then, FileTree, file_tokens}
+use Rattle.plc_syntax.specs.Trees.{Text, Placed, Pieces, kinds_of, symbol, placed_then, Comparison, comparison_symbol, each_then, maybe_then, comma_name_then, names_then, FieldTree, PointerField, DataField, field_then, shared_then, FunctionTree, Declares, function_then, WatchTree, UseHazard, UseEpoch, watch_then, OneOf, OfThreads, GhostTree, Auxiliary, ghost_then, PlaceTree, PlaceOf, place_then, AtomTree, NullAtom, NumberAtom, NameAtom, atom_then, ValueTree, NullValue, NewValue, NumberValue, MarkValue, UnmarkValue, PlaceValue, value_then, SetTree, SetName, SetField, set_then, RefreshTree, RefreshName, RefreshField, refresh_then, GhostValueTree, NameGhost, MeGhost, NoneGhost, ghost_value_then, GhostSetTree, SetGhost, ghost_set_then, InitialTree, InitialSet, InitialGhost, initial_then, init_then, TestTree, MarkedTest, UnmarkedTest, Compares, SameAs, OtherThan, LessThan, NotLessThan, test_then, name_or_null_then, ConditionTree, TestCondition, RefreshCondition, CasCondition, condition_then, PrimitiveTree, SetPrimitive, RefreshPrimitive, GhostPrimitive, ActivePrimitive, AssumePrimitive, SkipPrimitive, primitive_then, primitive_line_then, ArgumentTree, NoArgument, NullArgument, NameArgument, ActiveArgument, argument_then, during_then, StatementTree, PrimitiveStatement, AtomicStatement, CallStatement, IfStatement, ChooseStatement, LoopStatement, BreakStatement, ReturnStatement, LabelStatement, BlockTree, NoStatement, Then, ElseTree, NoElse, ElseBlock, OrTree, NoOr, OrBlock, statement_then, statements_then, else_then, or_then, parameters_then, OpTree, Operates, op_then, TermTree, PlaceTerm, NullTerm, NumberTerm, MeTerm, NoneTerm, term_then, FlagTree, RetiredFlag, MarkedFlag, flag_then, LiteralTree, FlagLiteral, NotLiteral, EqualityLiteral, literal_then, BoundTree, NoBound, AllOf, bound_then, or_literal_then, ClauseTree, Claims, clause_then, ItemTree, InvariantItem, OverItem, AtItem, item_then, depth_then, OutlineTree, Outlined, outline_then, FileTree, file_tokens}
 use Rattle.plc_syntax.specs.Nesting.{nesting_limit}
 use Rattle.plc_syntax.specs.Depth.{statement_depth, block_depth, else_depth, or_depth, op_depth, ops_depth, file_depth, DepthIsThatOfBraces}
+use Rattle.plc_syntax.proofs.Pieces.{from_kinds}
 use Rattle.plc_syntax.proofs.Braced.{is_atomic, Fine, AnyToken, Shallow, shallow_tokens, tokens_shallow}
 
 -- the most braces that are open before the brace of a block, where so many were opened and closed before and the token before may be `atomic`
@@ -59,18 +60,22 @@ deepest_fine o c a (Symbol _ ∷ ts) h = deepest_fine o c false ts h
 -- ---- forms without blocks
 
 -- the tokens of a tree add nothing to what is open at the blocks after it
-abbrev Flat : {X : Type 0} → (X → List TokenKind → List TokenKind) → X → Type 0
-Flat x_then x = (o c : ℕ) (r : List TokenKind) → deepest o c false (x_then x r) ≡ deepest o c false r
+abbrev Flat : {X : Type 0} → (X → Pieces → Pieces) → X → Type 0
+Flat x_then x = (o c : ℕ) (r : Pieces) → deepest o c false (kinds_of (x_then x r)) ≡ deepest o c false (kinds_of r)
 
-each_flat : {X : Type 0} (x_then : X → List TokenKind → List TokenKind) → ((x : X) → Flat x_then x) → (xs : List X) → Flat (each_then x_then) xs
+each_flat : {X : Type 0} (x_then : X → Pieces → Pieces) → ((x : X) → Flat x_then x) → (xs : List X) → Flat (each_then x_then) xs
 each_flat x_then one [] o c r = refl
 each_flat x_then one (x ∷ xs) o c r = one x o c _ ∙ each_flat x_then one xs o c r
 
-maybe_flat : {X : Type 0} (x_then : X → List TokenKind → List TokenKind) → ((x : X) → Flat x_then x) → (x : Option X) → Flat (maybe_then x_then) x
+maybe_flat : {X : Type 0} (x_then : X → Pieces → Pieces) → ((x : X) → Flat x_then x) → (x : Option X) → Flat (maybe_then x_then) x
 maybe_flat x_then one None o c r = refl
 maybe_flat x_then one (Some x) o c r = one x o c r
 
-names_flat : (n : Text) (ns : List Text) → Flat (names_then n) ns
+-- a form at its place
+placed_flat : {X : Type 0} (x_then : X → Pieces → Pieces) → ((x : X) → Flat x_then x) → (x : Placed X) → Flat (placed_then x_then) x
+placed_flat x_then one x o c r = ap (deepest o c false) (from_kinds x.at (x_then x.value r)) ∙ one x.value o c r
+
+names_flat : (n : Placed Text) (ns : List (Placed Text)) → Flat (names_then n) ns
 names_flat n ns o c r = each_flat comma_name_then (λ m o c r. refl) ns o c r
 
 place_flat : (x : PlaceTree) → Flat place_then x
@@ -90,16 +95,16 @@ watch_flat (UseHazard f) o c r = refl
 watch_flat (UseEpoch f g) o c r = refl
 
 atom_flat : (a : AtomTree) → Flat atom_then a
-atom_flat NullAtom o c r = refl
+atom_flat (NullAtom at) o c r = refl
 atom_flat (NumberAtom n) o c r = refl
 atom_flat (NameAtom n) o c r = refl
 
 value_flat : (v : ValueTree) → Flat value_then v
-value_flat NullValue o c r = refl
-value_flat NewValue o c r = refl
+value_flat (NullValue at) o c r = refl
+value_flat (NewValue at) o c r = refl
 value_flat (NumberValue n) o c r = refl
-value_flat (MarkValue n) o c r = refl
-value_flat (UnmarkValue n) o c r = refl
+value_flat (MarkValue at n) o c r = refl
+value_flat (UnmarkValue at n) o c r = refl
 value_flat (PlaceValue p) o c r = place_flat p o c r
 
 set_flat : (x : SetTree) → Flat set_then x
@@ -112,25 +117,28 @@ refresh_flat (RefreshField n f q) o c r = refl
 
 ghost_value_flat : (v : GhostValueTree) → Flat ghost_value_then v
 ghost_value_flat (NameGhost n) o c r = refl
-ghost_value_flat MeGhost o c r = refl
-ghost_value_flat NoneGhost o c r = refl
+ghost_value_flat (MeGhost at) o c r = refl
+ghost_value_flat (NoneGhost at) o c r = refl
 
 ghost_set_flat : (x : GhostSetTree) → Flat ghost_set_then x
 ghost_set_flat (SetGhost n g v) o c r = ghost_value_flat v o c r
 
 initial_flat : (i : InitialTree) → Flat initial_then i
-initial_flat (InitialSet x) o c r = set_flat x o c (Symbol Semicolon ∷ r)
-initial_flat (InitialGhost x) o c r = ghost_set_flat x o c (Symbol Semicolon ∷ r)
+initial_flat (InitialSet x) o c r = set_flat x o c (symbol Semicolon ∷ r)
+initial_flat (InitialGhost x) o c r = ghost_set_flat x o c (symbol Semicolon ∷ r)
+
+comparison_flat : (c : Comparison) → Flat (λ c r. symbol (comparison_symbol c) ∷ r) c
+comparison_flat SameAs o c r = refl
+comparison_flat OtherThan o c r = refl
+comparison_flat LessThan o c r = refl
+comparison_flat NotLessThan o c r = refl
 
 test_flat : (t : TestTree) → Flat test_then t
 test_flat (MarkedTest n) o c r = refl
 test_flat (UnmarkedTest n) o c r = refl
-test_flat (Compares n SameAs a) o c r = atom_flat a o c r
-test_flat (Compares n OtherThan a) o c r = atom_flat a o c r
-test_flat (Compares n LessThan a) o c r = atom_flat a o c r
-test_flat (Compares n NotLessThan a) o c r = atom_flat a o c r
+test_flat (Compares n c a) o k r = comparison_flat c.value o k (atom_then a r) ∙ atom_flat a o k r
 
-name_or_null_flat : (n : Option Text) → Flat name_or_null_then n
+name_or_null_flat : (n : Option (Placed Text)) → Flat name_or_null_then n
 name_or_null_flat None o c r = refl
 name_or_null_flat (Some n) o c r = refl
 
@@ -149,7 +157,7 @@ primitive_flat (AssumePrimitive t) o c r = test_flat t o c r
 primitive_flat SkipPrimitive o c r = refl
 
 primitive_line_flat : (p : PrimitiveTree) → Flat primitive_line_then p
-primitive_line_flat p o c r = primitive_flat p o c (Symbol Semicolon ∷ r)
+primitive_line_flat p o c r = primitive_flat p o c (symbol Semicolon ∷ r)
 
 argument_flat : (a : ArgumentTree) → Flat argument_then a
 argument_flat NoArgument o c r = refl
@@ -157,20 +165,20 @@ argument_flat NullArgument o c r = refl
 argument_flat (NameArgument n) o c r = refl
 argument_flat (ActiveArgument n) o c r = refl
 
-parameters_flat : (ps : List Text) → Flat parameters_then ps
+parameters_flat : (ps : List (Placed Text)) → Flat parameters_then ps
 parameters_flat [] o c r = refl
 parameters_flat (n ∷ ns) o c r = names_flat n ns o c r
 
 term_flat : (t : TermTree) → Flat term_then t
 term_flat (PlaceTerm x) o c r = place_flat x o c r
-term_flat NullTerm o c r = refl
+term_flat (NullTerm at) o c r = refl
 term_flat (NumberTerm n) o c r = refl
-term_flat MeTerm o c r = refl
-term_flat NoneTerm o c r = refl
+term_flat (MeTerm at) o c r = refl
+term_flat (NoneTerm at) o c r = refl
 
 flag_flat : (f : FlagTree) → Flat flag_then f
 flag_flat (RetiredFlag n) o c r = refl
-flag_flat (MarkedFlag p) o c r = place_flat p o c (Symbol CloseParen ∷ r)
+flag_flat (MarkedFlag p) o c r = place_flat p o c (symbol CloseParen ∷ r)
 
 literal_flat : (l : LiteralTree) → Flat literal_then l
 literal_flat (FlagLiteral f) o c r = flag_flat f o c r
@@ -178,8 +186,8 @@ literal_flat (NotLiteral f) o c r = flag_flat f o c r
 literal_flat (EqualityLiteral a true b) o c r = term_flat a o c _ ∙ term_flat b o c r
 literal_flat (EqualityLiteral a false b) o c r = term_flat a o c _ ∙ term_flat b o c r
 
-or_literal_flat : (l : LiteralTree) → Flat or_literal_then l
-or_literal_flat l o c r = literal_flat l o c r
+or_literal_flat : (l : Placed LiteralTree) → Flat or_literal_then l
+or_literal_flat l o c r = placed_flat literal_then literal_flat l o c r
 
 bound_flat : (b : BoundTree) → Flat bound_then b
 bound_flat NoBound o c r = refl
@@ -190,9 +198,9 @@ clause_flat : (x : ClauseTree) → Flat clause_then x
 clause_flat (Claims b l ls) o c r = bound_flat b o c _ ∙ (literal_flat l o c _ ∙ each_flat or_literal_then or_literal_flat ls o c r)
 
 item_flat : (x : ItemTree) → Flat item_then x
-item_flat (InvariantItem x) o c r = clause_flat x o c (Symbol Semicolon ∷ r)
-item_flat (OverItem n x) o c r = clause_flat x o c (Symbol Semicolon ∷ r)
-item_flat (AtItem n ns x) o c r = names_flat n ns o c _ ∙ clause_flat x o c (Symbol Semicolon ∷ r)
+item_flat (InvariantItem x) o c r = clause_flat x o c (symbol Semicolon ∷ r)
+item_flat (OverItem n x) o c r = clause_flat x o c (symbol Semicolon ∷ r)
+item_flat (AtItem n ns x) o c r = names_flat n ns o c _ ∙ clause_flat x o c (symbol Semicolon ∷ r)
 
 -- ---- statements, within n open braces
 
@@ -202,8 +210,8 @@ reach n zero = 0
 reach n (suc d) = n + d
 
 -- the blocks of a tree are so deep
-abbrev Deep : {X : Type 0} → (X → List TokenKind → List TokenKind) → X → ℕ → Type 0
-Deep x_then x d = (n c : ℕ) (r : List TokenKind) → deepest (n + c) c false (x_then x r) ≡ max (reach n d) (deepest (n + c) c false r)
+abbrev Deep : {X : Type 0} → (X → Pieces → Pieces) → X → ℕ → Type 0
+Deep x_then x d = (n c : ℕ) (r : Pieces) → deepest (n + c) c false (kinds_of (x_then x r)) ≡ max (reach n d) (deepest (n + c) c false (kinds_of r))
 
 -- blocks that stand deeper reach more
 reach_grows : (n d e : ℕ) → d ≤ e → reach n d ≤ reach n e
@@ -236,23 +244,23 @@ within n zero y = omega arith
 within n (suc d) y = omega arith
 
 -- a block in its braces
-in_block : {X : Type 0} (x_then : X → List TokenKind → List TokenKind) (x : X) (d : ℕ) → Deep x_then x d → (n c : ℕ) (r : List TokenKind)
-    → deepest (n + c) c false (Symbol OpenBrace ∷ x_then x (Symbol CloseBrace ∷ r)) ≡ max (reach n (suc d)) (deepest (n + c) c false r)
+in_block : {X : Type 0} (x_then : X → Pieces → Pieces) (x : X) (d : ℕ) → Deep x_then x d → (n c : ℕ) (r : Pieces)
+    → deepest (n + c) c false (kinds_of (symbol OpenBrace ∷ x_then x (symbol CloseBrace ∷ r))) ≡ max (reach n (suc d)) (deepest (n + c) c false (kinds_of r))
 in_block x_then x d deep n c r =
     let open_here : (n + c) - c ≡ n = omega arith in
     let more : suc (n + c) ≡ suc n + c = omega arith in
-    ap (λ k. max k (deepest (suc (n + c)) c false (x_then x (Symbol CloseBrace ∷ r)))) open_here
-    ∙ ap (max n) (ap (λ k. deepest k c false (x_then x (Symbol CloseBrace ∷ r))) more ∙ deep (suc n) c (Symbol CloseBrace ∷ r)
-    ∙ ap (max (reach (suc n) d)) (ap (λ k. deepest k (suc c) false r) (sym more) ∙ shift (n + c) c false r))
-    ∙ within n d (deepest (n + c) c false r)
+    ap (λ k. max k (deepest (suc (n + c)) c false (kinds_of (x_then x (symbol CloseBrace ∷ r))))) open_here
+    ∙ ap (max n) (ap (λ k. deepest k c false (kinds_of (x_then x (symbol CloseBrace ∷ r)))) more ∙ deep (suc n) c (symbol CloseBrace ∷ r)
+    ∙ ap (max (reach (suc n) d)) (ap (λ k. deepest k (suc c) false (kinds_of r)) (sym more) ∙ shift (n + c) c false (kinds_of r)))
+    ∙ within n d (deepest (n + c) c false (kinds_of r))
 
 -- an atomic block is none
-atomic_flat : (ps : List PrimitiveTree) → Flat statement_then (AtomicStatement ps)
-atomic_flat ps o c r = let inner = each_flat primitive_line_then primitive_line_flat ps (suc o) c (Symbol CloseBrace ∷ r) ∙ shift o c false r in ap (max 0) inner ∙ sym (flat_deep 0 _)
+atomic_flat : (ps : List (Placed PrimitiveTree)) → Flat statement_then (AtomicStatement ps)
+atomic_flat ps o c r = let inner = each_flat (placed_then primitive_line_then) (placed_flat primitive_line_then primitive_line_flat) ps (suc o) c (symbol CloseBrace ∷ r) ∙ shift o c false (kinds_of r) in ap (max 0) inner ∙ sym (flat_deep 0 _)
 
 mutual
   statement_deep : (x : StatementTree) → Deep statement_then x (statement_depth x)
-  statement_deep (PrimitiveStatement p) n c r = primitive_flat p (n + c) c (Symbol Semicolon ∷ r) ∙ flat_deep n _
+  statement_deep (PrimitiveStatement p) n c r = primitive_flat p (n + c) c (symbol Semicolon ∷ r) ∙ flat_deep n _
   statement_deep (AtomicStatement ps) n c r = atomic_flat ps (n + c) c r ∙ flat_deep n _
   statement_deep (CallStatement f a d) n c r = argument_flat a (n + c) c _ ∙ (maybe_flat during_then (λ m o c r. refl) d (n + c) c _ ∙ flat_deep n _)
   statement_deep (IfStatement x b e) n c r =
@@ -270,7 +278,7 @@ mutual
 
   block_deep : (b : BlockTree) → Deep statements_then b (block_depth b)
   block_deep NoStatement n c r = flat_deep n _
-  block_deep (Then s b) n c r = statement_deep s n c _ ∙ (ap (max (reach n (statement_depth s))) (block_deep b n c r) ∙ before n (statement_depth s) (block_depth b) _)
+  block_deep (Then at s b) n c r = ap (deepest (n + c) c false) (from_kinds at (statement_then s (statements_then b r))) ∙ statement_deep s n c _ ∙ (ap (max (reach n (statement_depth s))) (block_deep b n c r) ∙ before n (statement_depth s) (block_depth b) _)
 
   else_deep : (e : ElseTree) → Deep else_then e (else_depth e)
   else_deep NoElse n c r = flat_deep n _
@@ -285,40 +293,40 @@ mutual
 -- ---- the file: outside of operations no brace is open
 
 -- braces of no block, where none is open
-in_front : {X : Type 0} (x_then : X → List TokenKind → List TokenKind) (x : X) → Flat x_then x → (r : List TokenKind)
-    → deepest 0 0 false (Symbol OpenBrace ∷ x_then x (Symbol CloseBrace ∷ r)) ≡ deepest 0 0 false r
-in_front x_then x flat r = ap (max 0) (flat 1 0 (Symbol CloseBrace ∷ r) ∙ shift 0 0 false r) ∙ sym (flat_deep 0 _)
+in_front : {X : Type 0} (x_then : X → Pieces → Pieces) (x : X) → Flat x_then x → (r : Pieces)
+    → deepest 0 0 false (kinds_of (symbol OpenBrace ∷ x_then x (symbol CloseBrace ∷ r))) ≡ deepest 0 0 false (kinds_of r)
+in_front x_then x flat r = ap (max 0) (flat 1 0 (symbol CloseBrace ∷ r) ∙ shift 0 0 false (kinds_of r)) ∙ sym (flat_deep 0 _)
 
-each_front : {X : Type 0} (x_then : X → List TokenKind → List TokenKind) → ((x : X) (r : List TokenKind) → deepest 0 0 false (x_then x r) ≡ deepest 0 0 false r) → (xs : List X) (r : List TokenKind)
-    → deepest 0 0 false (each_then x_then xs r) ≡ deepest 0 0 false r
+each_front : {X : Type 0} (x_then : X → Pieces → Pieces) → ((x : X) (r : Pieces) → deepest 0 0 false (kinds_of (x_then x r)) ≡ deepest 0 0 false (kinds_of r)) → (xs : List X) (r : Pieces)
+    → deepest 0 0 false (kinds_of (each_then x_then xs r)) ≡ deepest 0 0 false (kinds_of r)
 each_front x_then one [] r = refl
 each_front x_then one (x ∷ xs) r = one x _ ∙ each_front x_then one xs r
 
-ghost_front : (g : GhostTree) (r : List TokenKind) → deepest 0 0 false (ghost_then g r) ≡ deepest 0 0 false r
+ghost_front : (g : GhostTree) (r : Pieces) → deepest 0 0 false (kinds_of (ghost_then g r)) ≡ deepest 0 0 false (kinds_of r)
 ghost_front (Auxiliary n OfThreads) r = refl
-ghost_front (Auxiliary n (OneOf v vs)) r = in_front (names_then v) vs (names_flat v vs) (Symbol Semicolon ∷ r)
+ghost_front (Auxiliary n (OneOf v vs)) r = in_front (names_then v) vs (names_flat v vs) (symbol Semicolon ∷ r)
 
-starts_front : (x : Option (List InitialTree)) (r : List TokenKind) → deepest 0 0 false (maybe_then init_then x r) ≡ deepest 0 0 false r
+starts_front : (x : Option (List (Placed InitialTree))) (r : Pieces) → deepest 0 0 false (kinds_of (maybe_then init_then x r)) ≡ deepest 0 0 false (kinds_of r)
 starts_front None r = refl
-starts_front (Some is) r = in_front (each_then initial_then) is (each_flat initial_then initial_flat is) r
+starts_front (Some is) r = in_front (each_then (placed_then initial_then)) is (each_flat (placed_then initial_then) (placed_flat initial_then initial_flat) is) r
 
-outline_front : (x : Option OutlineTree) → deepest 0 0 false (maybe_then outline_then x []) ≡ 0
+outline_front : (x : Option OutlineTree) → deepest 0 0 false (kinds_of (maybe_then outline_then x [])) ≡ 0
 outline_front None = refl
 outline_front (Some (Outlined d items)) = in_front items_after items flat []
   where
-    items_after : List ItemTree → List TokenKind → List TokenKind
+    items_after : List ItemTree → Pieces → Pieces
     items_after xs r = maybe_then depth_then d (each_then item_then xs r)
 
     flat : Flat items_after items
     flat o c r = maybe_flat depth_then (λ k o c r. refl) d o c _ ∙ each_flat item_then item_flat items o c r
 
-op_front : (x : OpTree) (r : List TokenKind) → deepest 0 0 false (op_then x r) ≡ max (reach 1 (op_depth x)) (deepest 0 0 false r)
+op_front : (x : OpTree) (r : Pieces) → deepest 0 0 false (kinds_of (op_then x r)) ≡ max (reach 1 (op_depth x)) (deepest 0 0 false (kinds_of r))
 op_front (Operates n ps ls b) r =
-    parameters_flat ps 0 0 _ ∙ (ap (max 0) (each_flat field_then field_flat ls 1 0 _ ∙ (block_deep b 1 0 (Symbol CloseBrace ∷ r) ∙ ap (max (reach 1 (block_depth b))) (shift 0 0 false r))) ∙ sym (flat_deep 0 _))
+    parameters_flat ps 0 0 _ ∙ (ap (max 0) (each_flat field_then field_flat ls 1 0 _ ∙ (block_deep b 1 0 (symbol CloseBrace ∷ r) ∙ ap (max (reach 1 (block_depth b))) (shift 0 0 false (kinds_of r)))) ∙ sym (flat_deep 0 _))
 
-ops_front : (xs : List OpTree) (r : List TokenKind) → deepest 0 0 false (each_then op_then xs r) ≡ max (reach 1 (ops_depth xs)) (deepest 0 0 false r)
+ops_front : (xs : List (Placed OpTree)) (r : Pieces) → deepest 0 0 false (kinds_of (each_then (placed_then op_then) xs r)) ≡ max (reach 1 (ops_depth xs)) (deepest 0 0 false (kinds_of r))
 ops_front [] r = flat_deep 1 _
-ops_front (x ∷ xs) r = op_front x _ ∙ (ap (max (reach 1 (op_depth x))) (ops_front xs r) ∙ before 1 (op_depth x) (ops_depth xs) _)
+ops_front (x ∷ xs) r = ap (deepest 0 0 false) (from_kinds x.at (op_then x.value (each_then (placed_then op_then) xs r))) ∙ (op_front x.value _ ∙ (ap (max (reach 1 (op_depth x.value))) (ops_front xs r) ∙ before 1 (op_depth x.value) (ops_depth xs) _))
 
 file_deep : (f : FileTree) → deepest 0 0 false (file_tokens f) ≡ reach 1 (file_depth f)
 file_deep f =

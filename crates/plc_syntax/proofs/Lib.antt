@@ -3,4 +3,7 @@ pub mod Braced
 pub mod Combinators
 pub mod Depths
 pub mod FormLaws
+pub mod Lists
 pub mod Marked
+pub mod Pieces
+pub mod Unplaced

@@ -3,7 +3,7 @@ use Rattle.std.specs.Prelude.{◌≤◌, ◌↔◌, ℕ, suc, max, List, [], ◌
 use Rattle.plc_syntax.specs.Trees.{StatementTree, PrimitiveStatement, AtomicStatement, CallStatement, IfStatement}
 use Rattle.plc_syntax.specs.Trees.{ChooseStatement, LoopStatement, BreakStatement, ReturnStatement, LabelStatement}
 use Rattle.plc_syntax.specs.Trees.{BlockTree, NoStatement, Then, ElseTree, NoElse, ElseBlock, OrTree, NoOr, OrBlock}
-use Rattle.plc_syntax.specs.Trees.{OpTree, Operates, FileTree, file_tokens}
+use Rattle.plc_syntax.specs.Trees.{Placed, OpTree, Operates, FileTree, file_tokens}
 use Rattle.plc_syntax.specs.Nesting.{nesting_limit, NoneTooDeep}
 
 -- how many blocks stand within one another in a statement, and in those of a block
@@ -21,7 +21,7 @@ abbrev mutual
 
   pub block_depth : BlockTree → ℕ
   block_depth NoStatement = 0
-  block_depth (Then s b) = max (statement_depth s) (block_depth b)
+  block_depth (Then at s b) = max (statement_depth s) (block_depth b)
 
   pub else_depth : ElseTree → ℕ
   else_depth NoElse = 0
@@ -36,9 +36,9 @@ abbrev pub op_depth : OpTree → ℕ
 op_depth (Operates n ps locals b) = block_depth b
 
 -- the deepest of the operations
-abbrev pub ops_depth : List OpTree → ℕ
+abbrev pub ops_depth : List (Placed OpTree) → ℕ
 ops_depth [] = 0
-ops_depth (x ∷ xs) = max (op_depth x) (ops_depth xs)
+ops_depth (x ∷ xs) = max (op_depth x.value) (ops_depth xs)
 
 -- how many blocks stand within one another in a file
 abbrev pub file_depth : FileTree → ℕ

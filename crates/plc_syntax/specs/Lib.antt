@@ -6,7 +6,6 @@ pub mod Forms
 pub mod Fronts
 pub mod Marks
 pub mod Nesting
-pub mod Sizes
 pub mod Syntax
 pub mod Trees
 pub mod Views

@@ -17,7 +17,7 @@ use Rattle.plc_syntax.specs.Trees.{BlockTree, NoStatement, Then, ElseTree, NoEls
 use Rattle.plc_syntax.specs.Trees.{OpTree, Operates, FlagTree, RetiredFlag, MarkedFlag}
 use Rattle.plc_syntax.specs.Trees.{LiteralTree, FlagLiteral, NotLiteral, EqualityLiteral, ClauseTree, Claims}
 use Rattle.plc_syntax.specs.Trees.{ItemTree, InvariantItem, OverItem, AtItem, OutlineTree, Outlined}
-use Rattle.plc_syntax.specs.Trees.{FileTree, file_tokens}
+use Rattle.plc_syntax.specs.Trees.{Placed, FileTree, file_tokens}
 
 -- the token is one of the four words
 abbrev pub is_mark_word : TokenKind → Bool
@@ -33,10 +33,10 @@ tokens_use_marks ts = list_any is_mark_word ts
 
 -- what is put into a name is `mark` or `unmark` of one
 abbrev pub value_uses_marks : ValueTree → Bool
-value_uses_marks (MarkValue n) = true
-value_uses_marks (UnmarkValue n) = true
-value_uses_marks NullValue = false
-value_uses_marks NewValue = false
+value_uses_marks (MarkValue at n) = true
+value_uses_marks (UnmarkValue at n) = true
+value_uses_marks (NullValue at) = false
+value_uses_marks (NewValue at) = false
 value_uses_marks (NumberValue n) = false
 value_uses_marks (PlaceValue p) = false
 
@@ -51,9 +51,9 @@ initial_uses_marks (InitialSet s) = set_uses_marks s
 initial_uses_marks (InitialGhost g) = false
 
 -- one of the init block's does, where there is one
-abbrev pub init_uses_marks : Option (List InitialTree) → Bool
+abbrev pub init_uses_marks : Option (List (Placed InitialTree)) → Bool
 init_uses_marks None = false
-init_uses_marks (Some sets) = list_any initial_uses_marks sets
+init_uses_marks (Some sets) = list_any (λ i. initial_uses_marks i.value) sets
 
 -- the test is `marked` or `unmarked`
 abbrev pub test_uses_marks : TestTree → Bool
@@ -80,7 +80,7 @@ primitive_uses_marks SkipPrimitive = false
 abbrev mutual
   pub statement_tree_uses_marks : StatementTree → Bool
   statement_tree_uses_marks (PrimitiveStatement p) = primitive_uses_marks p
-  statement_tree_uses_marks (AtomicStatement ps) = list_any primitive_uses_marks ps
+  statement_tree_uses_marks (AtomicStatement ps) = list_any (λ p. primitive_uses_marks p.value) ps
   statement_tree_uses_marks (CallStatement f a d) = false
   statement_tree_uses_marks (IfStatement c b e) =
       condition_tree_uses_marks c || block_uses_marks b || else_uses_marks e
@@ -93,7 +93,7 @@ abbrev mutual
 
   pub block_uses_marks : BlockTree → Bool
   block_uses_marks NoStatement = false
-  block_uses_marks (Then s b) = statement_tree_uses_marks s || block_uses_marks b
+  block_uses_marks (Then at s b) = statement_tree_uses_marks s || block_uses_marks b
 
   pub else_uses_marks : ElseTree → Bool
   else_uses_marks NoElse = false
@@ -120,7 +120,7 @@ literal_tree_uses_marks (EqualityLiteral a is_equal b) = false
 
 -- one of the literals of a clause does
 abbrev pub clause_tree_uses_marks : ClauseTree → Bool
-clause_tree_uses_marks (Claims b l ls) = literal_tree_uses_marks l || list_any literal_tree_uses_marks ls
+clause_tree_uses_marks (Claims b l ls) = literal_tree_uses_marks l || list_any (λ l. literal_tree_uses_marks l.value) ls
 
 -- the clause of an item does
 abbrev pub item_tree_uses_marks : ItemTree → Bool
@@ -140,7 +140,7 @@ outlined_uses_marks (Some o) = outline_tree_uses_marks o
 -- a file does where its init block, an operation or its outline does
 abbrev pub file_tree_uses_marks : FileTree → Bool
 file_tree_uses_marks f =
-    init_uses_marks f.starts || list_any op_uses_marks f.ops || outlined_uses_marks f.outlined
+    init_uses_marks f.starts || list_any (λ o. op_uses_marks o.value) f.ops || outlined_uses_marks f.outlined
 
 -- the tokens of a file use marks exactly where its tree does
 abbrev pub TreesSpellTheirMarks : Type 0

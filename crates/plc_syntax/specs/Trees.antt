@@ -1,8 +1,11 @@
 -- The grammar of a file: a tree for each form, and the tokens that spell it. `x_then tree rest` is the tokens of the
 -- tree followed by the rest, so that no tokens are ever joined by `++`. The forms stand in the grammar's order, but
 -- each above those that are made of it. Above each form is its production: quoted words are tokens, `[ ]` is optional,
--- `{ }*` repeats.
-use Rattle.std.specs.Prelude.{ℕ, Bool, true, false, Option, Some, None, List, [], ◌∷◌}
+-- `{ }*` repeats. Names, numbers, statements and what else a fault can be told at carry their place: the number of
+-- their first token, counted from 0. So each token of a tree comes with the places that the tree gives it, and one
+-- relation, `AreInPlace`, pins all of them.
+use Rattle.std.specs.Prelude.{◌≡◌, ℕ, ◌+◌, Bool, true, false, Option, Some, None, List, [], ◌∷◌, map}
+use Rattle.std.specs.List.{AllByRecursion}
 use Rattle.plc_lex.specs.declared.token.TokenKind.{TokenKind}
 use Rattle.plc_lex.specs.declared.token.TokenKind.TheVariants.{Word, Name, Number, Symbol}
 use Rattle.plc_lex.specs.declared.token.Keyword.{Keyword}
@@ -20,169 +23,228 @@ use Rattle.plc_lex.specs.declared.token.Symbol.TheVariants.{Colon, Less}
 abbrev pub Text : Type 0
 Text = List ℕ
 
+-- what stands at a place, the number of its first token
+pub record Placed (X : Type 0) : Type 0 where
+  pub at : ℕ
+  pub value : X
+
+-- ---- the tokens of a tree, and their places
+
+-- a token that a tree spells, with the places that the tree gives it
+pub record Piece : Type 0 where
+  pub kind : TokenKind
+  pub places : List ℕ
+
+abbrev pub Pieces : Type 0
+Pieces = List Piece
+
+-- a token to which a tree gives no place
+abbrev pub plain : TokenKind → Piece
+plain k = record { kind = k; places = [] }
+
+abbrev pub word : Keyword → Piece
+word w = plain (Word w)
+
+abbrev pub symbol : Punctuation → Piece
+symbol s = plain (Symbol s)
+
+-- a token at a place
+abbrev pub token_at : ℕ → TokenKind → Piece
+token_at at k = record { kind = k; places = at ∷ [] }
+
+abbrev pub word_at : ℕ → Keyword → Piece
+word_at at w = token_at at (Word w)
+
+abbrev pub name : Placed Text → Piece
+name n = token_at n.at (Name n.value)
+
+abbrev pub numeral : Placed ℕ → Piece
+numeral n = token_at n.at (Number n.value)
+
+-- tokens of which the first is at this place too
+abbrev pub from_place : ℕ → Pieces → Pieces
+from_place at [] = []
+from_place at (p ∷ ps) = record { kind = p.kind; places = at ∷ p.places } ∷ ps
+
+-- the tokens of a form at its place
+abbrev pub placed_then : {A : Type 0} → (A → Pieces → Pieces) → Placed A → Pieces → Pieces
+placed_then x_then x rest = from_place x.at (x_then x.value rest)
+
+-- the tokens without the places
+abbrev pub kinds_of : Pieces → List TokenKind
+kinds_of ps = map (λ p. p.kind) ps
+
+-- each place that a tree gives is the number of its own token, where the first has this one
+abbrev pub AreInPlace : ℕ → Pieces → Type 0
+AreInPlace at [] = Unit {0}
+AreInPlace at (p ∷ ps) = AllByRecursion (λ place. place ≡ at) p.places × AreInPlace (at + 1) ps
+
+-- ---- the forms
+
 -- { x }*
-abbrev pub each_then : {A : Type 0} → (A → List TokenKind → List TokenKind) → List A → List TokenKind → List TokenKind
+abbrev pub each_then : {A : Type 0} → (A → Pieces → Pieces) → List A → Pieces → Pieces
 each_then x_then [] rest = rest
 each_then x_then (x ∷ xs) rest = x_then x (each_then x_then xs rest)
 
 -- [ x ]
-abbrev pub maybe_then : {A : Type 0} → (A → List TokenKind → List TokenKind) → Option A → List TokenKind
-    → List TokenKind
+abbrev pub maybe_then : {A : Type 0} → (A → Pieces → Pieces) → Option A → Pieces
+    → Pieces
 maybe_then x_then None rest = rest
 maybe_then x_then (Some x) rest = x_then x rest
 
 -- [ "word" ]
-abbrev pub word_if_then : Keyword → Bool → List TokenKind → List TokenKind
-word_if_then word false rest = rest
-word_if_then word true rest = Word word ∷ rest
+abbrev pub word_if_then : Keyword → Bool → Pieces → Pieces
+word_if_then w false rest = rest
+word_if_then w true rest = word w ∷ rest
 
 -- "," NAME
-abbrev pub comma_name_then : Text → List TokenKind → List TokenKind
-comma_name_then n rest = Symbol Comma ∷ Name n ∷ rest
+abbrev pub comma_name_then : Placed Text → Pieces → Pieces
+comma_name_then n rest = symbol Comma ∷ name n ∷ rest
 
 -- NAME { "," NAME }*
-abbrev pub names_then : Text → List Text → List TokenKind → List TokenKind
-names_then n ns rest = Name n ∷ each_then comma_name_then ns rest
+abbrev pub names_then : Placed Text → List (Placed Text) → Pieces → Pieces
+names_then n ns rest = name n ∷ each_then comma_name_then ns rest
 
 -- ( "ptr" | "data" ) NAME ";", a field of the struct or a local of an operation
 pub data FieldTree : Type 0 where
-  PointerField : Text → FieldTree
-  DataField : Text → FieldTree
+  PointerField : Placed Text → FieldTree
+  DataField : Placed Text → FieldTree
 
-abbrev pub field_then : FieldTree → List TokenKind → List TokenKind
-field_then (PointerField n) rest = Word Ptr ∷ Name n ∷ Symbol Semicolon ∷ rest
-field_then (DataField n) rest = Word Data ∷ Name n ∷ Symbol Semicolon ∷ rest
+abbrev pub field_then : FieldTree → Pieces → Pieces
+field_then (PointerField n) rest = word Ptr ∷ name n ∷ symbol Semicolon ∷ rest
+field_then (DataField n) rest = word Data ∷ name n ∷ symbol Semicolon ∷ rest
 
 -- struct := "struct" NAME "{" { ( "ptr" | "data" ) NAME ";" }* "}"
-abbrev pub struct_then : Text → List FieldTree → List TokenKind → List TokenKind
-struct_then n fs rest = Word Struct ∷ Name n ∷ Symbol OpenBrace ∷ each_then field_then fs (Symbol CloseBrace ∷ rest)
+abbrev pub struct_then : Placed Text → List FieldTree → Pieces → Pieces
+struct_then n fs rest = word Struct ∷ name n ∷ symbol OpenBrace ∷ each_then field_then fs (symbol CloseBrace ∷ rest)
 
 -- shared := "shared" NAME ";"
-abbrev pub shared_then : Text → List TokenKind → List TokenKind
-shared_then n rest = Word Shared ∷ Name n ∷ Symbol Semicolon ∷ rest
+abbrev pub shared_then : Placed Text → Pieces → Pieces
+shared_then n rest = word Shared ∷ name n ∷ symbol Semicolon ∷ rest
 
 -- call := "call" NAME "(" [ "ptr" ] ")" ";"
 pub data FunctionTree : Type 0 where
-  Declares : Text → Bool → FunctionTree
+  Declares : Placed Text → Bool → FunctionTree
 
-abbrev pub function_then : FunctionTree → List TokenKind → List TokenKind
+abbrev pub function_then : FunctionTree → Pieces → Pieces
 function_then (Declares n takes_pointer) rest =
-    Word Call ∷ Name n ∷ Symbol OpenParen ∷ word_if_then Ptr takes_pointer (Symbol CloseParen ∷ Symbol Semicolon ∷ rest)
+    word Call ∷ name n ∷ symbol OpenParen ∷ word_if_then Ptr takes_pointer (symbol CloseParen ∷ symbol Semicolon ∷ rest)
 
 -- watch := "use" "hazard" "(" NAME ")" ";" | "use" "epoch" "(" NAME "," NAME ")" ";"
 pub data WatchTree : Type 0 where
-  UseHazard : Text → WatchTree
-  UseEpoch : Text → Text → WatchTree
+  UseHazard : Placed Text → WatchTree
+  UseEpoch : Placed Text → Placed Text → WatchTree
 
-abbrev pub scheme_then : WatchTree → List TokenKind → List TokenKind
-scheme_then (UseHazard f) rest = Word Hazard ∷ Symbol OpenParen ∷ Name f ∷ Symbol CloseParen ∷ Symbol Semicolon ∷ rest
+abbrev pub scheme_then : WatchTree → Pieces → Pieces
+scheme_then (UseHazard f) rest = word Hazard ∷ symbol OpenParen ∷ name f ∷ symbol CloseParen ∷ symbol Semicolon ∷ rest
 scheme_then (UseEpoch e l) rest =
-    Word Epoch ∷ Symbol OpenParen ∷ Name e ∷ Symbol Comma ∷ Name l ∷ Symbol CloseParen ∷ Symbol Semicolon ∷ rest
+    word Epoch ∷ symbol OpenParen ∷ name e ∷ symbol Comma ∷ name l ∷ symbol CloseParen ∷ symbol Semicolon ∷ rest
 
-abbrev pub watch_then : WatchTree → List TokenKind → List TokenKind
-watch_then w rest = Word Use ∷ scheme_then w rest
+abbrev pub watch_then : WatchTree → Pieces → Pieces
+watch_then w rest = word Use ∷ scheme_then w rest
 
 -- ghost := "ghost" NAME ( "{" NAME { "," NAME }* "}" | "thread" ) ";"
 pub data GhostKindTree : Type 0 where
-  OneOf : Text → List Text → GhostKindTree
+  OneOf : Placed Text → List (Placed Text) → GhostKindTree
   OfThreads : GhostKindTree
 
-abbrev pub ghost_kind_then : GhostKindTree → List TokenKind → List TokenKind
-ghost_kind_then (OneOf v vs) rest = Symbol OpenBrace ∷ names_then v vs (Symbol CloseBrace ∷ rest)
-ghost_kind_then OfThreads rest = Word Thread ∷ rest
+abbrev pub ghost_kind_then : GhostKindTree → Pieces → Pieces
+ghost_kind_then (OneOf v vs) rest = symbol OpenBrace ∷ names_then v vs (symbol CloseBrace ∷ rest)
+ghost_kind_then OfThreads rest = word Thread ∷ rest
 
 pub data GhostTree : Type 0 where
-  Auxiliary : Text → GhostKindTree → GhostTree
+  Auxiliary : Placed Text → GhostKindTree → GhostTree
 
-abbrev pub ghost_then : GhostTree → List TokenKind → List TokenKind
-ghost_then (Auxiliary n k) rest = Word Ghost ∷ Name n ∷ ghost_kind_then k (Symbol Semicolon ∷ rest)
+abbrev pub ghost_then : GhostTree → Pieces → Pieces
+ghost_then (Auxiliary n k) rest = word Ghost ∷ name n ∷ ghost_kind_then k (symbol Semicolon ∷ rest)
 
 -- NAME [ "." NAME ], a name or a field of what it points to
-abbrev pub dot_name_then : Text → List TokenKind → List TokenKind
-dot_name_then f rest = Symbol Dot ∷ Name f ∷ rest
+abbrev pub dot_name_then : Placed Text → Pieces → Pieces
+dot_name_then f rest = symbol Dot ∷ name f ∷ rest
 
 pub data PlaceTree : Type 0 where
-  PlaceOf : Text → Option Text → PlaceTree
+  PlaceOf : Placed Text → Option (Placed Text) → PlaceTree
 
-abbrev pub place_then : PlaceTree → List TokenKind → List TokenKind
-place_then (PlaceOf n f) rest = Name n ∷ maybe_then dot_name_then f rest
+abbrev pub place_then : PlaceTree → Pieces → Pieces
+place_then (PlaceOf n f) rest = name n ∷ maybe_then dot_name_then f rest
 
 -- "null" | NUMBER | NAME, what is put into a field and what a name is compared with
 pub data AtomTree : Type 0 where
-  NullAtom : AtomTree
-  NumberAtom : ℕ → AtomTree
-  NameAtom : Text → AtomTree
+  NullAtom : ℕ → AtomTree
+  NumberAtom : Placed ℕ → AtomTree
+  NameAtom : Placed Text → AtomTree
 
-abbrev pub atom_then : AtomTree → List TokenKind → List TokenKind
-atom_then NullAtom rest = Word Null ∷ rest
-atom_then (NumberAtom n) rest = Number n ∷ rest
-atom_then (NameAtom n) rest = Name n ∷ rest
+abbrev pub atom_then : AtomTree → Pieces → Pieces
+atom_then (NullAtom at) rest = word_at at Null ∷ rest
+atom_then (NumberAtom n) rest = numeral n ∷ rest
+atom_then (NameAtom n) rest = name n ∷ rest
 
 -- "null" | "new" | NUMBER | ( "mark" | "unmark" ) NAME | NAME [ "." NAME ], what is put into a name
 pub data ValueTree : Type 0 where
-  NullValue : ValueTree
-  NewValue : ValueTree
-  NumberValue : ℕ → ValueTree
-  MarkValue : Text → ValueTree
-  UnmarkValue : Text → ValueTree
+  NullValue : ℕ → ValueTree
+  NewValue : ℕ → ValueTree
+  NumberValue : Placed ℕ → ValueTree
+  MarkValue : ℕ → Placed Text → ValueTree
+  UnmarkValue : ℕ → Placed Text → ValueTree
   PlaceValue : PlaceTree → ValueTree
 
-abbrev pub value_then : ValueTree → List TokenKind → List TokenKind
-value_then NullValue rest = Word Null ∷ rest
-value_then NewValue rest = Word New ∷ rest
-value_then (NumberValue n) rest = Number n ∷ rest
-value_then (MarkValue n) rest = Word Mark ∷ Name n ∷ rest
-value_then (UnmarkValue n) rest = Word Unmark ∷ Name n ∷ rest
+abbrev pub value_then : ValueTree → Pieces → Pieces
+value_then (NullValue at) rest = word_at at Null ∷ rest
+value_then (NewValue at) rest = word_at at New ∷ rest
+value_then (NumberValue n) rest = numeral n ∷ rest
+value_then (MarkValue at n) rest = word_at at Mark ∷ name n ∷ rest
+value_then (UnmarkValue at n) rest = word_at at Unmark ∷ name n ∷ rest
 value_then (PlaceValue p) rest = place_then p rest
 
 -- set := NAME ":=" ( "null" | "new" | NUMBER | ( "mark" | "unmark" ) NAME | NAME [ "." NAME ] )
 --    | NAME "." NAME ":=" ( "null" | NUMBER | NAME )
 pub data SetTree : Type 0 where
-  SetName : Text → ValueTree → SetTree
-  SetField : Text → Text → AtomTree → SetTree
+  SetName : Placed Text → ValueTree → SetTree
+  SetField : Placed Text → Placed Text → AtomTree → SetTree
 
-abbrev pub set_then : SetTree → List TokenKind → List TokenKind
-set_then (SetName n v) rest = Name n ∷ Symbol Assign ∷ value_then v rest
-set_then (SetField n f a) rest = Name n ∷ Symbol Dot ∷ Name f ∷ Symbol Assign ∷ atom_then a rest
+abbrev pub set_then : SetTree → Pieces → Pieces
+set_then (SetName n v) rest = name n ∷ symbol Assign ∷ value_then v rest
+set_then (SetField n f a) rest = name n ∷ symbol Dot ∷ name f ∷ symbol Assign ∷ atom_then a rest
 
 -- refresh := NAME "?=" NAME [ "." NAME ] | NAME "." NAME "?=" NAME
 pub data RefreshTree : Type 0 where
-  RefreshName : Text → PlaceTree → RefreshTree
-  RefreshField : Text → Text → Text → RefreshTree
+  RefreshName : Placed Text → PlaceTree → RefreshTree
+  RefreshField : Placed Text → Placed Text → Placed Text → RefreshTree
 
-abbrev pub refresh_then : RefreshTree → List TokenKind → List TokenKind
-refresh_then (RefreshName n p) rest = Name n ∷ Symbol Refresh ∷ place_then p rest
-refresh_then (RefreshField n f q) rest = Name n ∷ Symbol Dot ∷ Name f ∷ Symbol Refresh ∷ Name q ∷ rest
+abbrev pub refresh_then : RefreshTree → Pieces → Pieces
+refresh_then (RefreshName n p) rest = name n ∷ symbol Refresh ∷ place_then p rest
+refresh_then (RefreshField n f q) rest = name n ∷ symbol Dot ∷ name f ∷ symbol Refresh ∷ name q ∷ rest
 
 -- gset := "ghost" NAME "." NAME ":=" ( NAME | "me" | "none" )
 pub data GhostValueTree : Type 0 where
-  NameGhost : Text → GhostValueTree
-  MeGhost : GhostValueTree
-  NoneGhost : GhostValueTree
+  NameGhost : Placed Text → GhostValueTree
+  MeGhost : ℕ → GhostValueTree
+  NoneGhost : ℕ → GhostValueTree
 
-abbrev pub ghost_value_then : GhostValueTree → List TokenKind → List TokenKind
-ghost_value_then (NameGhost n) rest = Name n ∷ rest
-ghost_value_then MeGhost rest = Word Me ∷ rest
-ghost_value_then NoneGhost rest = Word NoneWord ∷ rest
+abbrev pub ghost_value_then : GhostValueTree → Pieces → Pieces
+ghost_value_then (NameGhost n) rest = name n ∷ rest
+ghost_value_then (MeGhost at) rest = word_at at Me ∷ rest
+ghost_value_then (NoneGhost at) rest = word_at at NoneWord ∷ rest
 
 pub data GhostSetTree : Type 0 where
-  SetGhost : Text → Text → GhostValueTree → GhostSetTree
+  SetGhost : Placed Text → Placed Text → GhostValueTree → GhostSetTree
 
-abbrev pub ghost_set_then : GhostSetTree → List TokenKind → List TokenKind
+abbrev pub ghost_set_then : GhostSetTree → Pieces → Pieces
 ghost_set_then (SetGhost n g v) rest =
-    Word Ghost ∷ Name n ∷ Symbol Dot ∷ Name g ∷ Symbol Assign ∷ ghost_value_then v rest
+    word Ghost ∷ name n ∷ symbol Dot ∷ name g ∷ symbol Assign ∷ ghost_value_then v rest
 
 -- init := "init" "{" { ( set | gset ) ";" }* "}"
 pub data InitialTree : Type 0 where
   InitialSet : SetTree → InitialTree
   InitialGhost : GhostSetTree → InitialTree
 
-abbrev pub initial_then : InitialTree → List TokenKind → List TokenKind
-initial_then (InitialSet s) rest = set_then s (Symbol Semicolon ∷ rest)
-initial_then (InitialGhost g) rest = ghost_set_then g (Symbol Semicolon ∷ rest)
+abbrev pub initial_then : InitialTree → Pieces → Pieces
+initial_then (InitialSet s) rest = set_then s (symbol Semicolon ∷ rest)
+initial_then (InitialGhost g) rest = ghost_set_then g (symbol Semicolon ∷ rest)
 
-abbrev pub init_then : List InitialTree → List TokenKind → List TokenKind
-init_then sets rest = Word Init ∷ Symbol OpenBrace ∷ each_then initial_then sets (Symbol CloseBrace ∷ rest)
+abbrev pub init_then : List (Placed InitialTree) → Pieces → Pieces
+init_then sets rest = word Init ∷ symbol OpenBrace ∷ each_then (placed_then initial_then) sets
+    (symbol CloseBrace ∷ rest)
 
 -- test := ( "marked" | "unmarked" ) NAME | NAME ( "==" | "!=" | "<" | ">=" ) ( NAME | NUMBER | "null" )
 pub data Comparison : Type 0 where
@@ -197,71 +259,74 @@ comparison_symbol OtherThan = Unequal
 comparison_symbol LessThan = Less
 comparison_symbol NotLessThan = AtLeast
 
-pub data TestTree : Type 0 where
-  MarkedTest : Text → TestTree
-  UnmarkedTest : Text → TestTree
-  Compares : Text → Comparison → AtomTree → TestTree
+abbrev pub comparison : Placed Comparison → Piece
+comparison c = token_at c.at (Symbol (comparison_symbol c.value))
 
-abbrev pub test_then : TestTree → List TokenKind → List TokenKind
-test_then (MarkedTest n) rest = Word Marked ∷ Name n ∷ rest
-test_then (UnmarkedTest n) rest = Word Unmarked ∷ Name n ∷ rest
-test_then (Compares n c a) rest = Name n ∷ Symbol (comparison_symbol c) ∷ atom_then a rest
+pub data TestTree : Type 0 where
+  MarkedTest : Placed Text → TestTree
+  UnmarkedTest : Placed Text → TestTree
+  Compares : Placed Text → Placed Comparison → AtomTree → TestTree
+
+abbrev pub test_then : TestTree → Pieces → Pieces
+test_then (MarkedTest n) rest = word Marked ∷ name n ∷ rest
+test_then (UnmarkedTest n) rest = word Unmarked ∷ name n ∷ rest
+test_then (Compares n c a) rest = name n ∷ comparison c ∷ atom_then a rest
 
 -- cond := test | NAME "?=" NAME [ "." NAME ] | "cas" "(" [ "active" ] NAME "," ( NAME | "null" ) "," ( NAME
 --    | "null" ) ")"
-abbrev pub name_or_null_then : Option Text → List TokenKind → List TokenKind
-name_or_null_then (Some n) rest = Name n ∷ rest
-name_or_null_then None rest = Word Null ∷ rest
+abbrev pub name_or_null_then : Option (Placed Text) → Pieces → Pieces
+name_or_null_then (Some n) rest = name n ∷ rest
+name_or_null_then None rest = word Null ∷ rest
 
 pub data ConditionTree : Type 0 where
   TestCondition : TestTree → ConditionTree
-  RefreshCondition : Text → PlaceTree → ConditionTree
-  CasCondition : Bool → Text → Option Text → Option Text → ConditionTree
+  RefreshCondition : Placed Text → PlaceTree → ConditionTree
+  CasCondition : Bool → Placed Text → Option (Placed Text) → Option (Placed Text) → ConditionTree
 
-abbrev pub condition_then : ConditionTree → List TokenKind → List TokenKind
+abbrev pub condition_then : ConditionTree → Pieces → Pieces
 condition_then (TestCondition t) rest = test_then t rest
-condition_then (RefreshCondition n p) rest = Name n ∷ Symbol Refresh ∷ place_then p rest
+condition_then (RefreshCondition n p) rest = name n ∷ symbol Refresh ∷ place_then p rest
 condition_then (CasCondition is_active n old new) rest =
-    Word Cas ∷ Symbol OpenParen ∷ word_if_then Active is_active (Name n ∷ Symbol Comma ∷ name_or_null_then old
-    (Symbol Comma ∷ name_or_null_then new (Symbol CloseParen ∷ rest)))
+    word Cas ∷ symbol OpenParen ∷ word_if_then Active is_active (name n ∷ symbol Comma ∷ name_or_null_then old
+    (symbol Comma ∷ name_or_null_then new (symbol CloseParen ∷ rest)))
 
 -- prim := set | refresh | gset | "active" NAME | "assume" test | "skip"
 pub data PrimitiveTree : Type 0 where
   SetPrimitive : SetTree → PrimitiveTree
   RefreshPrimitive : RefreshTree → PrimitiveTree
   GhostPrimitive : GhostSetTree → PrimitiveTree
-  ActivePrimitive : Text → PrimitiveTree
+  ActivePrimitive : Placed Text → PrimitiveTree
   AssumePrimitive : TestTree → PrimitiveTree
   SkipPrimitive : PrimitiveTree
 
-abbrev pub primitive_then : PrimitiveTree → List TokenKind → List TokenKind
+abbrev pub primitive_then : PrimitiveTree → Pieces → Pieces
 primitive_then (SetPrimitive s) rest = set_then s rest
 primitive_then (RefreshPrimitive r) rest = refresh_then r rest
 primitive_then (GhostPrimitive g) rest = ghost_set_then g rest
-primitive_then (ActivePrimitive n) rest = Word Active ∷ Name n ∷ rest
-primitive_then (AssumePrimitive t) rest = Word Assume ∷ test_then t rest
-primitive_then SkipPrimitive rest = Word Skip ∷ rest
+primitive_then (ActivePrimitive n) rest = word Active ∷ name n ∷ rest
+primitive_then (AssumePrimitive t) rest = word Assume ∷ test_then t rest
+primitive_then SkipPrimitive rest = word Skip ∷ rest
 
 -- prim ";"
-abbrev pub primitive_line_then : PrimitiveTree → List TokenKind → List TokenKind
-primitive_line_then p rest = primitive_then p (Symbol Semicolon ∷ rest)
+abbrev pub primitive_line_then : PrimitiveTree → Pieces → Pieces
+primitive_line_then p rest = primitive_then p (symbol Semicolon ∷ rest)
 
 -- [ "null" | [ "active" ] NAME ], what a function is called with
 pub data ArgumentTree : Type 0 where
   NoArgument : ArgumentTree
   NullArgument : ArgumentTree
-  NameArgument : Text → ArgumentTree
-  ActiveArgument : Text → ArgumentTree
+  NameArgument : Placed Text → ArgumentTree
+  ActiveArgument : Placed Text → ArgumentTree
 
-abbrev pub argument_then : ArgumentTree → List TokenKind → List TokenKind
+abbrev pub argument_then : ArgumentTree → Pieces → Pieces
 argument_then NoArgument rest = rest
-argument_then NullArgument rest = Word Null ∷ rest
-argument_then (NameArgument n) rest = Name n ∷ rest
-argument_then (ActiveArgument n) rest = Word Active ∷ Name n ∷ rest
+argument_then NullArgument rest = word Null ∷ rest
+argument_then (NameArgument n) rest = name n ∷ rest
+argument_then (ActiveArgument n) rest = word Active ∷ name n ∷ rest
 
 -- "during" NAME
-abbrev pub during_then : Text → List TokenKind → List TokenKind
-during_then n rest = Word During ∷ Name n ∷ rest
+abbrev pub during_then : Placed Text → Pieces → Pieces
+during_then n rest = word During ∷ name n ∷ rest
 
 -- stmt := prim ";" | "atomic" "{" { prim ";" }* "}"
 --       | NAME "(" [ "null" | [ "active" ] NAME ] ")" [ "during" NAME ] ";"
@@ -270,19 +335,19 @@ during_then n rest = Word During ∷ Name n ∷ rest
 mutual
   pub data StatementTree : Type 0 where
     PrimitiveStatement : PrimitiveTree → StatementTree
-    AtomicStatement : List PrimitiveTree → StatementTree
-    CallStatement : Text → ArgumentTree → Option Text → StatementTree
+    AtomicStatement : List (Placed PrimitiveTree) → StatementTree
+    CallStatement : Placed Text → ArgumentTree → Option (Placed Text) → StatementTree
     IfStatement : ConditionTree → BlockTree → ElseTree → StatementTree
     ChooseStatement : BlockTree → BlockTree → OrTree → StatementTree
     LoopStatement : BlockTree → StatementTree
     BreakStatement : StatementTree
     ReturnStatement : StatementTree
-    LabelStatement : Text → StatementTree
+    LabelStatement : Placed Text → StatementTree
 
-  -- { stmt }*, the statements of a block
+  -- { stmt }*, the statements of a block, each at its place
   pub data BlockTree : Type 0 where
     NoStatement : BlockTree
-    Then : StatementTree → BlockTree → BlockTree
+    Then : ℕ → StatementTree → BlockTree → BlockTree
 
   -- [ "else" block ]
   pub data ElseTree : Type 0 where
@@ -296,71 +361,71 @@ mutual
 
 -- block := "{" { stmt }* "}"
 abbrev mutual
-  pub statement_then : StatementTree → List TokenKind → List TokenKind
-  statement_then (PrimitiveStatement p) rest = primitive_then p (Symbol Semicolon ∷ rest)
+  pub statement_then : StatementTree → Pieces → Pieces
+  statement_then (PrimitiveStatement p) rest = primitive_then p (symbol Semicolon ∷ rest)
   statement_then (AtomicStatement ps) rest =
-      Word Atomic ∷ Symbol OpenBrace ∷ each_then primitive_line_then ps (Symbol CloseBrace ∷ rest)
-  statement_then (CallStatement f a d) rest = Name f ∷ Symbol OpenParen ∷ argument_then a
-      (Symbol CloseParen ∷ maybe_then during_then d (Symbol Semicolon ∷ rest))
-  statement_then (IfStatement c b e) rest = Word If ∷ Symbol OpenParen ∷ condition_then c
-      (Symbol CloseParen ∷ Symbol OpenBrace ∷ statements_then b (Symbol CloseBrace ∷ else_then e rest))
+      word Atomic ∷ symbol OpenBrace ∷ each_then (placed_then primitive_line_then) ps (symbol CloseBrace ∷ rest)
+  statement_then (CallStatement f a d) rest = name f ∷ symbol OpenParen ∷ argument_then a
+      (symbol CloseParen ∷ maybe_then during_then d (symbol Semicolon ∷ rest))
+  statement_then (IfStatement c b e) rest = word If ∷ symbol OpenParen ∷ condition_then c
+      (symbol CloseParen ∷ symbol OpenBrace ∷ statements_then b (symbol CloseBrace ∷ else_then e rest))
   statement_then (ChooseStatement a b os) rest =
-      Word Choose ∷ Symbol OpenBrace ∷ statements_then a (Symbol CloseBrace ∷ Word Or ∷ Symbol OpenBrace ∷
-      statements_then b (Symbol CloseBrace ∷ or_then os rest))
-  statement_then (LoopStatement b) rest = Word Loop ∷ Symbol OpenBrace ∷ statements_then b (Symbol CloseBrace ∷ rest)
-  statement_then BreakStatement rest = Word Break ∷ Symbol Semicolon ∷ rest
-  statement_then ReturnStatement rest = Word Return ∷ Symbol Semicolon ∷ rest
-  statement_then (LabelStatement n) rest = Word Label ∷ Name n ∷ Symbol Semicolon ∷ rest
+      word Choose ∷ symbol OpenBrace ∷ statements_then a (symbol CloseBrace ∷ word Or ∷ symbol OpenBrace ∷
+      statements_then b (symbol CloseBrace ∷ or_then os rest))
+  statement_then (LoopStatement b) rest = word Loop ∷ symbol OpenBrace ∷ statements_then b (symbol CloseBrace ∷ rest)
+  statement_then BreakStatement rest = word Break ∷ symbol Semicolon ∷ rest
+  statement_then ReturnStatement rest = word Return ∷ symbol Semicolon ∷ rest
+  statement_then (LabelStatement n) rest = word Label ∷ name n ∷ symbol Semicolon ∷ rest
 
-  pub statements_then : BlockTree → List TokenKind → List TokenKind
+  pub statements_then : BlockTree → Pieces → Pieces
   statements_then NoStatement rest = rest
-  statements_then (Then s b) rest = statement_then s (statements_then b rest)
+  statements_then (Then at s b) rest = from_place at (statement_then s (statements_then b rest))
 
-  pub else_then : ElseTree → List TokenKind → List TokenKind
+  pub else_then : ElseTree → Pieces → Pieces
   else_then NoElse rest = rest
-  else_then (ElseBlock b) rest = Word Else ∷ Symbol OpenBrace ∷ statements_then b (Symbol CloseBrace ∷ rest)
+  else_then (ElseBlock b) rest = word Else ∷ symbol OpenBrace ∷ statements_then b (symbol CloseBrace ∷ rest)
 
-  pub or_then : OrTree → List TokenKind → List TokenKind
+  pub or_then : OrTree → Pieces → Pieces
   or_then NoOr rest = rest
-  or_then (OrBlock b os) rest = Word Or ∷ Symbol OpenBrace ∷ statements_then b (Symbol CloseBrace ∷ or_then os rest)
+  or_then (OrBlock b os) rest = word Or ∷ symbol OpenBrace ∷ statements_then b (symbol CloseBrace ∷ or_then os rest)
 
 -- [ NAME { "," NAME }* ]
-abbrev pub parameters_then : List Text → List TokenKind → List TokenKind
+abbrev pub parameters_then : List (Placed Text) → Pieces → Pieces
 parameters_then [] rest = rest
 parameters_then (n ∷ ns) rest = names_then n ns rest
 
 -- op := "op" NAME "(" [ NAME { "," NAME }* ] ")" "{" { ( "ptr" | "data" ) NAME ";" }* { stmt }* "}"
 pub data OpTree : Type 0 where
-  Operates : Text → List Text → List FieldTree → BlockTree → OpTree
+  Operates : Placed Text → List (Placed Text) → List FieldTree → BlockTree → OpTree
 
-abbrev pub op_then : OpTree → List TokenKind → List TokenKind
+abbrev pub op_then : OpTree → Pieces → Pieces
 op_then (Operates n ps locals b) rest =
-    Word Op ∷ Name n ∷ Symbol OpenParen ∷ parameters_then ps (Symbol CloseParen ∷ Symbol OpenBrace ∷
-    each_then field_then locals (statements_then b (Symbol CloseBrace ∷ rest)))
+    word Op ∷ name n ∷ symbol OpenParen ∷ parameters_then ps (symbol CloseParen ∷ symbol OpenBrace ∷
+    each_then field_then locals (statements_then b (symbol CloseBrace ∷ rest)))
 
 -- term := NAME [ "." NAME ] | "null" | NUMBER | "me" | "none"
 pub data TermTree : Type 0 where
   PlaceTerm : PlaceTree → TermTree
-  NullTerm : TermTree
-  NumberTerm : ℕ → TermTree
-  MeTerm : TermTree
-  NoneTerm : TermTree
+  NullTerm : ℕ → TermTree
+  NumberTerm : Placed ℕ → TermTree
+  MeTerm : ℕ → TermTree
+  NoneTerm : ℕ → TermTree
 
-abbrev pub term_then : TermTree → List TokenKind → List TokenKind
+abbrev pub term_then : TermTree → Pieces → Pieces
 term_then (PlaceTerm p) rest = place_then p rest
-term_then NullTerm rest = Word Null ∷ rest
-term_then (NumberTerm n) rest = Number n ∷ rest
-term_then MeTerm rest = Word Me ∷ rest
-term_then NoneTerm rest = Word NoneWord ∷ rest
+term_then (NullTerm at) rest = word_at at Null ∷ rest
+term_then (NumberTerm n) rest = numeral n ∷ rest
+term_then (MeTerm at) rest = word_at at Me ∷ rest
+term_then (NoneTerm at) rest = word_at at NoneWord ∷ rest
 
 -- lit := [ "not" ] ( "retired" "(" NAME ")" | "marked" "(" NAME [ "." NAME ] ")" ) | term ( "==" | "!=" ) term
 pub data FlagTree : Type 0 where
-  RetiredFlag : Text → FlagTree
+  RetiredFlag : Placed Text → FlagTree
   MarkedFlag : PlaceTree → FlagTree
 
-abbrev pub flag_then : FlagTree → List TokenKind → List TokenKind
-flag_then (RetiredFlag n) rest = Word Retired ∷ Symbol OpenParen ∷ Name n ∷ Symbol CloseParen ∷ rest
-flag_then (MarkedFlag p) rest = Word Marked ∷ Symbol OpenParen ∷ place_then p (Symbol CloseParen ∷ rest)
+abbrev pub flag_then : FlagTree → Pieces → Pieces
+flag_then (RetiredFlag n) rest = word Retired ∷ symbol OpenParen ∷ name n ∷ symbol CloseParen ∷ rest
+flag_then (MarkedFlag p) rest = word Marked ∷ symbol OpenParen ∷ place_then p (symbol CloseParen ∷ rest)
 
 abbrev pub equality_symbol : Bool → Punctuation
 equality_symbol true = Equal
@@ -371,70 +436,70 @@ pub data LiteralTree : Type 0 where
   NotLiteral : FlagTree → LiteralTree
   EqualityLiteral : TermTree → Bool → TermTree → LiteralTree
 
-abbrev pub literal_then : LiteralTree → List TokenKind → List TokenKind
+abbrev pub literal_then : LiteralTree → Pieces → Pieces
 literal_then (FlagLiteral f) rest = flag_then f rest
-literal_then (NotLiteral f) rest = Word Not ∷ flag_then f rest
-literal_then (EqualityLiteral a is_equal b) rest = term_then a (Symbol (equality_symbol is_equal) ∷ term_then b rest)
+literal_then (NotLiteral f) rest = word Not ∷ flag_then f rest
+literal_then (EqualityLiteral a is_equal b) rest = term_then a (symbol (equality_symbol is_equal) ∷ term_then b rest)
 
 -- clause := [ "all" NAME [ "," NAME ] ":" ] lit { "or" lit }*
 pub data BoundTree : Type 0 where
   NoBound : BoundTree
-  AllOf : Text → Option Text → BoundTree
+  AllOf : Placed Text → Option (Placed Text) → BoundTree
 
-abbrev pub bound_then : BoundTree → List TokenKind → List TokenKind
+abbrev pub bound_then : BoundTree → Pieces → Pieces
 bound_then NoBound rest = rest
-bound_then (AllOf n m) rest = Word All ∷ Name n ∷ maybe_then comma_name_then m (Symbol Colon ∷ rest)
+bound_then (AllOf n m) rest = word All ∷ name n ∷ maybe_then comma_name_then m (symbol Colon ∷ rest)
 
-abbrev pub or_literal_then : LiteralTree → List TokenKind → List TokenKind
-or_literal_then l rest = Word Or ∷ literal_then l rest
+abbrev pub or_literal_then : Placed LiteralTree → Pieces → Pieces
+or_literal_then l rest = word Or ∷ placed_then literal_then l rest
 
 pub data ClauseTree : Type 0 where
-  Claims : BoundTree → LiteralTree → List LiteralTree → ClauseTree
+  Claims : BoundTree → LiteralTree → List (Placed LiteralTree) → ClauseTree
 
-abbrev pub clause_then : ClauseTree → List TokenKind → List TokenKind
+abbrev pub clause_then : ClauseTree → Pieces → Pieces
 clause_then (Claims b l ls) rest = bound_then b (literal_then l (each_then or_literal_then ls rest))
 
 -- item := "inv" clause ";" | "over" NAME ":" clause ";" | "at" NAME { "," NAME }* ":" clause ";"
 pub data ItemTree : Type 0 where
   InvariantItem : ClauseTree → ItemTree
-  OverItem : Text → ClauseTree → ItemTree
-  AtItem : Text → List Text → ClauseTree → ItemTree
+  OverItem : Placed Text → ClauseTree → ItemTree
+  AtItem : Placed Text → List (Placed Text) → ClauseTree → ItemTree
 
-abbrev pub item_then : ItemTree → List TokenKind → List TokenKind
-item_then (InvariantItem c) rest = Word Inv ∷ clause_then c (Symbol Semicolon ∷ rest)
-item_then (OverItem n c) rest = Word Over ∷ Name n ∷ Symbol Colon ∷ clause_then c (Symbol Semicolon ∷ rest)
-item_then (AtItem n ns c) rest = Word At ∷ names_then n ns (Symbol Colon ∷ clause_then c (Symbol Semicolon ∷ rest))
+abbrev pub item_then : ItemTree → Pieces → Pieces
+item_then (InvariantItem c) rest = word Inv ∷ clause_then c (symbol Semicolon ∷ rest)
+item_then (OverItem n c) rest = word Over ∷ name n ∷ symbol Colon ∷ clause_then c (symbol Semicolon ∷ rest)
+item_then (AtItem n ns c) rest = word At ∷ names_then n ns (symbol Colon ∷ clause_then c (symbol Semicolon ∷ rest))
 
 -- outline := "outline" "{" [ "depth" NUMBER ";" ] { item }* "}"
-abbrev pub depth_then : ℕ → List TokenKind → List TokenKind
-depth_then d rest = Word Depth ∷ Number d ∷ Symbol Semicolon ∷ rest
+abbrev pub depth_then : Placed ℕ → Pieces → Pieces
+depth_then d rest = word Depth ∷ numeral d ∷ symbol Semicolon ∷ rest
 
 pub data OutlineTree : Type 0 where
-  Outlined : Option ℕ → List ItemTree → OutlineTree
+  Outlined : Option (Placed ℕ) → List ItemTree → OutlineTree
 
-abbrev pub outline_then : OutlineTree → List TokenKind → List TokenKind
+abbrev pub outline_then : OutlineTree → Pieces → Pieces
 outline_then (Outlined d items) rest =
-    Word Outline ∷ Symbol OpenBrace ∷ maybe_then depth_then d (each_then item_then items (Symbol CloseBrace ∷ rest))
+    word Outline ∷ symbol OpenBrace ∷ maybe_then depth_then d (each_then item_then items (symbol CloseBrace ∷ rest))
 
 -- file := struct { shared }* { call }* [ watch ] { ghost }* [ init ] { op }* [ outline ]
 pub record FileTree : Type 0 where
-  pub name : Text
+  pub name : Placed Text
   pub fields : List FieldTree
-  pub pointers : List Text
+  pub pointers : List (Placed Text)
   pub functions : List FunctionTree
   pub watched : Option WatchTree
   pub ghosts : List GhostTree
-  pub starts : Option (List InitialTree)
-  pub ops : List OpTree
+  pub starts : Option (List (Placed InitialTree))
+  pub ops : List (Placed OpTree)
   pub outlined : Option OutlineTree
 
-abbrev pub file_then : FileTree → List TokenKind → List TokenKind
+abbrev pub file_then : FileTree → Pieces → Pieces
 file_then f rest =
     struct_then f.name f.fields (each_then shared_then f.pointers (each_then function_then f.functions
     (maybe_then watch_then f.watched
-    (each_then ghost_then f.ghosts (maybe_then init_then f.starts (each_then op_then f.ops
+    (each_then ghost_then f.ghosts (maybe_then init_then f.starts (each_then (placed_then op_then) f.ops
     (maybe_then outline_then f.outlined rest)))))))
 
 -- the tokens that spell a file
 abbrev pub file_tokens : FileTree → List TokenKind
-file_tokens f = file_then f []
+file_tokens f = kinds_of (file_then f [])

@@ -1,11 +1,12 @@
 // What an outline is made of: its depth, and the literals and the quantified names of its clauses.
 ghost use Rattle.plc_syntax.specs.Syntax.{kinds};
-ghost use Rattle.plc_syntax.specs.Views.{text_or_none, term_tree, flag_tree, literal_tree, bound_tree};
+ghost use Rattle.plc_syntax.specs.Views.{name_or_none, number_or_none, term_tree, flag_tree, literal_tree};
+ghost use Rattle.plc_syntax.specs.Views.{placed_as, bound_tree};
 ghost use Rattle.plc_syntax.specs.Forms.{term_of, equality_of, retired_of, marked_of, flag_of, equation_of, literal_of};
 ghost use Rattle.plc_syntax.specs.Forms.{or_literal_of, second_of, all_of, bound_of, depth_of};
 ghost use Rattle.plc_syntax.specs.Answers.{Gives};
 
-use crate::form::{Bound, Flag, Literal, Term};
+use crate::form::{Bound, Flag, Literal, Name, Placed, Term};
 use crate::front::{
     Front, Read, at_front, name_and_at, name_at, number_at, stuck, symbol_at, word_at,
 };
@@ -19,10 +20,10 @@ fn term_at<'a>(rest: Rest<'a>) -> Read<'a, Term<'a>>
     ensures { Gives term_tree result (term_of rest.entry.at (kinds rest.entry.tokens.now)) }
 {
     match at_front(rest) {
-        (Front::Word(Keyword::Null), after) => Ok((Term::Null, after)),
+        (Front::Word(Keyword::Null), after) => Ok((Term::Null(rest.at), after)),
         (Front::Number(n), after) => Ok((Term::Number(n), after)),
-        (Front::Word(Keyword::Me), after) => Ok((Term::Me, after)),
-        (Front::Word(Keyword::None), after) => Ok((Term::None, after)),
+        (Front::Word(Keyword::Me), after) => Ok((Term::Me(rest.at), after)),
+        (Front::Word(Keyword::None), after) => Ok((Term::None(rest.at), after)),
         (Front::Name(name), after) =>
             within!(Term::Place(place); place = place_of_name_at(name, after)),
         _ => Err(stuck(rest)),
@@ -97,15 +98,18 @@ pub fn literal_at<'a>(rest: Rest<'a>) -> Read<'a, Literal<'a>>
 }
 
 /// A further literal, with its "or".
-pub fn or_literal_at<'a>(rest: Rest<'a>) -> Read<'a, Literal<'a>>
-    ensures { Gives literal_tree result (or_literal_of rest.entry.at (kinds rest.entry.tokens.now)) }
+pub fn or_literal_at<'a>(rest: Rest<'a>) -> Read<'a, Placed<Literal<'a>>>
+    ensures { Gives (placed_as literal_tree) result (or_literal_of rest.entry.at (kinds rest.entry.tokens.now)) }
 {
-    in_turn!(after = word_at(rest, Keyword::Or); literal_at(after))
+    in_turn!(
+        after = word_at(rest, Keyword::Or);
+        within!(Placed { at: after.at, value }; value = literal_at(after))
+    )
 }
 
 /// A second quantified name, which may be left out.
-fn second_at<'a>(rest: Rest<'a>) -> Read<'a, Option<&'a [u8]>>
-    ensures { Gives text_or_none result (second_of rest.entry.at (kinds rest.entry.tokens.now)) }
+fn second_at<'a>(rest: Rest<'a>) -> Read<'a, Option<Name<'a>>>
+    ensures { Gives name_or_none result (second_of rest.entry.at (kinds rest.entry.tokens.now)) }
 {
     match at_front(rest) {
         (Front::Symbol(Symbol::Comma), after) => within!(Some(name); name = name_at(after)),
@@ -134,8 +138,8 @@ pub fn bound_at<'a>(rest: Rest<'a>) -> Read<'a, Bound<'a>>
 }
 
 /// The depth, which may be left out.
-pub fn depth_at<'a>(rest: Rest<'a>) -> Read<'a, Option<u32>>
-    ensures { Gives (λ d. d) result (depth_of rest.entry.at (kinds rest.entry.tokens.now)) }
+pub fn depth_at<'a>(rest: Rest<'a>) -> Read<'a, Option<Placed<u32>>>
+    ensures { Gives number_or_none result (depth_of rest.entry.at (kinds rest.entry.tokens.now)) }
 {
     match at_front(rest) {
         (Front::Word(Keyword::Depth), after) =>

@@ -1,11 +1,11 @@
 // Tests and the conditions of `if`.
 ghost use Rattle.plc_syntax.specs.Syntax.{kinds};
-ghost use Rattle.plc_syntax.specs.Views.{text_or_none, relation_tree, test_tree, cas_tree, condition_tree};
+ghost use Rattle.plc_syntax.specs.Views.{name_tree, name_or_none, relation_tree, test_tree, cas_tree, condition_tree};
 ghost use Rattle.plc_syntax.specs.Forms.{comparison_of, compared_of, test_of, name_or_null_of, cas_of};
 ghost use Rattle.plc_syntax.specs.Forms.{cas_condition_of, named_condition_of, condition_of};
 ghost use Rattle.plc_syntax.specs.Answers.{Gives};
 
-use crate::form::{Cas, Condition, Relation, Test};
+use crate::form::{Cas, Condition, Name, Placed, Relation, Test};
 use crate::front::{Front, Read, at_front, name_and_at, name_at, stuck, symbol_at, word_if_at};
 use crate::rest::Rest;
 use crate::statement::{atom_at, place_at};
@@ -26,12 +26,12 @@ fn relation_at<'a>(rest: Rest<'a>) -> Read<'a, Relation>
 }
 
 /// A comparison, from after its name.
-fn compared_at<'a>(name: &'a [u8], rest: Rest<'a>) -> Read<'a, Test<'a>>
-    ensures { Gives test_tree result (compared_of name.now rest.entry.at (kinds rest.entry.tokens.now)) }
+fn compared_at<'a>(name: Name<'a>, rest: Rest<'a>) -> Read<'a, Test<'a>>
+    ensures { Gives test_tree result (compared_of (name_tree name.entry) rest.entry.at (kinds rest.entry.tokens.now)) }
 {
     in_turn!(
-        (relation, after) = relation_at(rest);
-        within!(Test::Compares { name, relation, atom }; atom = atom_at(after))
+        (value, after) = relation_at(rest);
+        within!(Test::Compares { name, relation: Placed { at: rest.at, value }, atom }; atom = atom_at(after))
     )
 }
 
@@ -49,8 +49,8 @@ pub fn test_at<'a>(rest: Rest<'a>) -> Read<'a, Test<'a>>
 }
 
 /// A name, or `null`.
-fn name_or_null_at<'a>(rest: Rest<'a>) -> Read<'a, Option<&'a [u8]>>
-    ensures { Gives text_or_none result (name_or_null_of rest.entry.at (kinds rest.entry.tokens.now)) }
+fn name_or_null_at<'a>(rest: Rest<'a>) -> Read<'a, Option<Name<'a>>>
+    ensures { Gives name_or_none result (name_or_null_of rest.entry.at (kinds rest.entry.tokens.now)) }
 {
     match at_front(rest) {
         (Front::Name(name), after) => Ok((Some(name), after)),
@@ -83,8 +83,9 @@ fn cas_condition_at<'a>(rest: Rest<'a>) -> Read<'a, Condition<'a>>
 }
 
 /// A condition, from after its name.
-fn named_condition_at<'a>(name: &'a [u8], rest: Rest<'a>) -> Read<'a, Condition<'a>>
-    ensures { Gives condition_tree result (named_condition_of name.now rest.entry.at (kinds rest.entry.tokens.now)) }
+fn named_condition_at<'a>(name: Name<'a>, rest: Rest<'a>) -> Read<'a, Condition<'a>>
+    ensures { Gives condition_tree result
+        (named_condition_of (name_tree name.entry) rest.entry.at (kinds rest.entry.tokens.now)) }
 {
     match at_front(rest) {
         (Front::Symbol(Symbol::Refresh), after) =>

@@ -2,12 +2,12 @@
 // it watches, and the assignments of the init block.
 ghost use Rattle.plc_syntax.specs.Syntax.{kinds};
 ghost use Rattle.plc_syntax.specs.Views.{field_tree, function_tree, watch_tree, shared_name, watched_tree, set_tree};
-ghost use Rattle.plc_syntax.specs.Views.{initial_tree};
+ghost use Rattle.plc_syntax.specs.Views.{initial_tree, name_tree};
 ghost use Rattle.plc_syntax.specs.Forms.{field_of, shared_of, function_of, hazard_of, epoch_of};
 ghost use Rattle.plc_syntax.specs.Forms.{scheme_of, watch_of, set_field_of, set_of_name, initial_of};
 ghost use Rattle.plc_syntax.specs.Answers.{Gives};
 
-use crate::form::{Declaration, Function, Initial, Set, Shared, Watch};
+use crate::form::{Declaration, Function, Initial, Name, Set, Shared, Watch};
 use crate::front::{Front, Read, at_front, name_and_at, stuck, symbol_at, word_at, word_if_at};
 use crate::rest::Rest;
 use crate::statement::{atom_at, ghost_set_at, value_at};
@@ -94,8 +94,8 @@ pub fn watch_at<'a>(rest: Rest<'a>) -> Read<'a, Option<Watch<'a>>>
 }
 
 /// An assignment to a field, from after the dot.
-fn set_field_at<'a>(name: &'a [u8], rest: Rest<'a>) -> Read<'a, Set<'a>>
-    ensures { Gives set_tree result (set_field_of name.now rest.entry.at (kinds rest.entry.tokens.now)) }
+fn set_field_at<'a>(name: Name<'a>, rest: Rest<'a>) -> Read<'a, Set<'a>>
+    ensures { Gives set_tree result (set_field_of (name_tree name.entry) rest.entry.at (kinds rest.entry.tokens.now)) }
 {
     in_turn!(
         (field, after) = name_and_at(rest, Symbol::Assign);
@@ -104,8 +104,8 @@ fn set_field_at<'a>(name: &'a [u8], rest: Rest<'a>) -> Read<'a, Set<'a>>
 }
 
 /// An assignment, from after its first name.
-fn set_of_name_at<'a>(name: &'a [u8], rest: Rest<'a>) -> Read<'a, Set<'a>>
-    ensures { Gives set_tree result (set_of_name name.now rest.entry.at (kinds rest.entry.tokens.now)) }
+fn set_of_name_at<'a>(name: Name<'a>, rest: Rest<'a>) -> Read<'a, Set<'a>>
+    ensures { Gives set_tree result (set_of_name (name_tree name.entry) rest.entry.at (kinds rest.entry.tokens.now)) }
 {
     match at_front(rest) {
         (Front::Symbol(Symbol::Assign), after) =>

@@ -1,17 +1,30 @@
 // The forms that readers answer, one type for each kind of tree. They borrow the bytes of names from
-// the tokens, so reading takes no memory.
+// the tokens, so reading takes no memory. Names, numbers, statements and what else a fault can be told at carry
+// their place, so that nobody above counts tokens.
+
+/// What stands at a place.
+#[derive(Clone, Copy, Drop)]
+pub struct Placed<T> {
+    /// The number of its first token, counted from 0.
+    pub at: u32,
+    /// What stands there.
+    pub value: T,
+}
+
+/// A name where it stands.
+pub type Name<'a> = Placed<&'a [u8]>;
 
 /// A shared pointer, by its name.
 #[derive(Clone, Copy)]
 pub struct Shared<'a> {
-    pub name: &'a [u8],
+    pub name: Name<'a>,
 }
 
 /// A reclaimer function.
 #[derive(Clone, Copy)]
 pub struct Function<'a> {
     /// How it is called.
-    pub name: &'a [u8],
+    pub name: Name<'a>,
     /// Whether it takes a pointer.
     pub takes_pointer: bool,
 }
@@ -19,78 +32,83 @@ pub struct Function<'a> {
 /// A field of the struct or a local, by its name.
 #[derive(Clone, Copy)]
 pub enum Declaration<'a> {
-    Pointer(&'a [u8]),
-    Data(&'a [u8]),
+    Pointer(Name<'a>),
+    Data(Name<'a>),
 }
 
 /// What the reclaimer watches.
 #[derive(Clone, Copy)]
 pub enum Watch<'a> {
     /// The function that sets a hazard pointer.
-    Hazard(&'a [u8]),
+    Hazard(Name<'a>),
     /// The functions that enter and leave an epoch.
-    Epoch(&'a [u8], &'a [u8]),
+    Epoch(Name<'a>, Name<'a>),
 }
 
 /// A name, or a field of what it points to.
 #[derive(Clone, Copy)]
 pub struct Place<'a> {
     /// The name.
-    pub name: &'a [u8],
+    pub name: Name<'a>,
     /// The field, where it is one.
-    pub field: Option<&'a [u8]>,
+    pub field: Option<Name<'a>>,
 }
 
 /// What is put into a name.
 #[derive(Clone, Copy)]
 pub enum Value<'a> {
-    Null,
-    New,
-    Number(u32),
-    /// The value of a name, with its mark set.
-    Mark(&'a [u8]),
-    /// The value of a name, with its mark cleared.
-    Unmark(&'a [u8]),
+    /// `null`, at its place.
+    Null(u32),
+    /// `new`, at its place.
+    New(u32),
+    Number(Placed<u32>),
+    /// The place of `mark`, and the name whose value is taken with its mark set.
+    Mark(u32, Name<'a>),
+    /// The place of `unmark`, and the name whose value is taken with its mark cleared.
+    Unmark(u32, Name<'a>),
     Place(Place<'a>),
 }
 
 /// What is put into a field, or compared with a name.
 #[derive(Clone, Copy)]
 pub enum Atom<'a> {
-    Null,
-    Number(u32),
-    Name(&'a [u8]),
+    /// `null`, at its place.
+    Null(u32),
+    Number(Placed<u32>),
+    Name(Name<'a>),
 }
 
 /// An assignment to a name, or to a field of what a name points to.
 #[derive(Clone, Copy)]
 pub enum Set<'a> {
-    Name(&'a [u8], Value<'a>),
-    Field(&'a [u8], &'a [u8], Atom<'a>),
+    Name(Name<'a>, Value<'a>),
+    Field(Name<'a>, Name<'a>, Atom<'a>),
 }
 
 /// A refresh into a name, or into a field of what a name points to.
 #[derive(Clone, Copy)]
 pub enum Refresh<'a> {
-    Name(&'a [u8], Place<'a>),
-    Field(&'a [u8], &'a [u8], &'a [u8]),
+    Name(Name<'a>, Place<'a>),
+    Field(Name<'a>, Name<'a>, Name<'a>),
 }
 
 /// What is put into an auxiliary field.
 #[derive(Clone, Copy)]
 pub enum GhostValue<'a> {
-    Name(&'a [u8]),
-    Me,
-    None,
+    Name(Name<'a>),
+    /// `me`, at its place.
+    Me(u32),
+    /// `none`, at its place.
+    None(u32),
 }
 
 /// An assignment to an auxiliary field of what a name points to.
 #[derive(Clone, Copy)]
 pub struct GhostSet<'a> {
     /// What points to the node.
-    pub name: &'a [u8],
+    pub name: Name<'a>,
     /// The auxiliary field.
-    pub field: &'a [u8],
+    pub field: Name<'a>,
     /// What it is set to.
     pub value: GhostValue<'a>,
 }
@@ -107,11 +125,11 @@ pub enum Relation {
 /// A test of a name: its mark is set, or isn't; or it stands in a relation to what it is compared with.
 #[derive(Clone, Copy)]
 pub enum Test<'a> {
-    Marked(&'a [u8]),
-    Unmarked(&'a [u8]),
+    Marked(Name<'a>),
+    Unmarked(Name<'a>),
     Compares {
-        name: &'a [u8],
-        relation: Relation,
+        name: Name<'a>,
+        relation: Placed<Relation>,
         atom: Atom<'a>,
     },
 }
@@ -120,7 +138,7 @@ pub enum Test<'a> {
 #[derive(Clone, Copy)]
 pub enum Condition<'a> {
     Test(Test<'a>),
-    Refresh(&'a [u8], Place<'a>),
+    Refresh(Name<'a>, Place<'a>),
     Cas(Cas<'a>),
 }
 
@@ -130,11 +148,11 @@ pub struct Cas<'a> {
     /// Whether the pointer is claimed to be active.
     pub is_active: bool,
     /// The pointer.
-    pub name: &'a [u8],
+    pub name: Name<'a>,
     /// What it is compared with; none is null.
-    pub old: Option<&'a [u8]>,
+    pub old: Option<Name<'a>>,
     /// What it is set to; none is null.
-    pub new: Option<&'a [u8]>,
+    pub new: Option<Name<'a>>,
 }
 
 /// A primitive.
@@ -143,7 +161,7 @@ pub enum Primitive<'a> {
     Set(Set<'a>),
     Refresh(Refresh<'a>),
     Ghost(GhostSet<'a>),
-    Active(&'a [u8]),
+    Active(Name<'a>),
     Assume(Test<'a>),
     Skip,
 }
@@ -160,15 +178,15 @@ pub enum Initial<'a> {
 pub enum Argument<'a> {
     None,
     Null,
-    Name(&'a [u8]),
-    Active(&'a [u8]),
+    Name(Name<'a>),
+    Active(Name<'a>),
 }
 
 /// A call.
 #[derive(Clone, Copy)]
 pub struct Call<'a> {
     /// The function.
-    pub name: &'a [u8],
+    pub name: Name<'a>,
     /// What it is called with.
     pub argument: Argument<'a>,
 }
@@ -177,16 +195,19 @@ pub struct Call<'a> {
 #[derive(Clone, Copy)]
 pub enum Term<'a> {
     Place(Place<'a>),
-    Null,
-    Number(u32),
-    Me,
-    None,
+    /// `null`, at its place.
+    Null(u32),
+    Number(Placed<u32>),
+    /// `me`, at its place.
+    Me(u32),
+    /// `none`, at its place.
+    None(u32),
 }
 
 /// What a literal says of a node or of a place.
 #[derive(Clone, Copy)]
 pub enum Flag<'a> {
-    Retired(&'a [u8]),
+    Retired(Name<'a>),
     Marked(Place<'a>),
 }
 
@@ -204,5 +225,5 @@ pub enum Literal<'a> {
 #[derive(Clone, Copy)]
 pub enum Bound<'a> {
     None,
-    All(&'a [u8], Option<&'a [u8]>),
+    All(Name<'a>, Option<Name<'a>>),
 }

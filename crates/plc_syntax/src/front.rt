@@ -3,12 +3,13 @@
 // `word_if_at` takes its word if it stands there, and says so.
 ghost use Rattle.std.specs.Prelude.{◌≡◌, ◌+◌, ◌∷◌, [], MatchOption, IfSome};
 ghost use Rattle.plc_syntax.specs.Syntax.{kinds};
-ghost use Rattle.plc_syntax.specs.Views.{text_of};
-ghost use Rattle.plc_syntax.specs.Fronts.{front_then, front_end};
+ghost use Rattle.plc_syntax.specs.Views.{name_tree, number_tree};
+ghost use Rattle.plc_syntax.specs.Fronts.{front_then, front_end, IsThere};
 ghost use Rattle.plc_syntax.specs.Forms.{word_of, word_if_of, symbol_of, name_of, name_and, number_of, comma_name_of};
 ghost use Rattle.plc_syntax.specs.Answers.{Gives, Passes};
 
 use crate::fault::Fault;
+use crate::form::{Name, Placed};
 use crate::rest::Rest;
 use plc_lex::{Keyword, Symbol, TokenKind};
 
@@ -77,8 +78,8 @@ pub fn first<'a>(rest: Rest<'a>) -> Option<(&'a TokenKind, Rest<'a>)>
 #[derive(Clone, Copy)]
 pub enum Front<'a> {
     Word(Keyword),
-    Name(&'a [u8]),
-    Number(u32),
+    Name(Name<'a>),
+    Number(Placed<u32>),
     Symbol(Symbol),
     /// No token.
     End,
@@ -89,11 +90,19 @@ pub enum Front<'a> {
 pub fn at_front<'a>(rest: Rest<'a>) -> (Front<'a>, Rest<'a>)
     ensures read { kinds rest.entry.tokens.now ≡ front_then result.0 (kinds result.1.tokens.now) }
     ensures at { result.1.at ≡ front_end result.0 rest.entry.at }
+    ensures place { IsThere result.0 rest.entry.at }
 {
+    let at = rest.at;
     match first(rest) {
         Some((TokenKind::Word(word), after)) => (Front::Word(*word), after),
-        Some((TokenKind::Name(name), after)) => (Front::Name(name.as_slice()), after),
-        Some((TokenKind::Number(number), after)) => (Front::Number(*number), after),
+        Some((TokenKind::Name(name), after)) => {
+            let value = name.as_slice();
+            (Front::Name(Placed { at, value }), after)
+        }
+        Some((TokenKind::Number(number), after)) => (
+            Front::Number(Placed { at, value: *number }),
+            after,
+        ),
         Some((TokenKind::Symbol(symbol), after)) => (Front::Symbol(*symbol), after),
         None => (Front::End, rest),
     }
@@ -130,8 +139,8 @@ pub fn symbol_at<'a>(rest: Rest<'a>, symbol: Symbol) -> Result<Rest<'a>, Fault>
 }
 
 /// A name.
-pub fn name_at<'a>(rest: Rest<'a>) -> Read<'a, &'a [u8]>
-    ensures { Gives text_of result (name_of rest.entry.at (kinds rest.entry.tokens.now)) }
+pub fn name_at<'a>(rest: Rest<'a>) -> Read<'a, Name<'a>>
+    ensures { Gives name_tree result (name_of rest.entry.at (kinds rest.entry.tokens.now)) }
 {
     match at_front(rest) {
         (Front::Name(name), after) => Ok((name, after)),
@@ -140,8 +149,8 @@ pub fn name_at<'a>(rest: Rest<'a>) -> Read<'a, &'a [u8]>
 }
 
 /// A name after its comma: a further parameter, value or label.
-pub fn comma_name_at<'a>(rest: Rest<'a>) -> Read<'a, &'a [u8]>
-    ensures { Gives text_of result (comma_name_of rest.entry.at (kinds rest.entry.tokens.now)) }
+pub fn comma_name_at<'a>(rest: Rest<'a>) -> Read<'a, Name<'a>>
+    ensures { Gives name_tree result (comma_name_of rest.entry.at (kinds rest.entry.tokens.now)) }
 {
     match at_front(rest) {
         (Front::Symbol(Symbol::Comma), after) => name_at(after),
@@ -150,8 +159,8 @@ pub fn comma_name_at<'a>(rest: Rest<'a>) -> Read<'a, &'a [u8]>
 }
 
 /// A name and the symbol after it.
-pub fn name_and_at<'a>(rest: Rest<'a>, symbol: Symbol) -> Read<'a, &'a [u8]>
-    ensures { Gives text_of result (name_and symbol rest.entry.at (kinds rest.entry.tokens.now)) }
+pub fn name_and_at<'a>(rest: Rest<'a>, symbol: Symbol) -> Read<'a, Name<'a>>
+    ensures { Gives name_tree result (name_and symbol rest.entry.at (kinds rest.entry.tokens.now)) }
 {
     in_turn!(
         (name, after) = name_at(rest);
@@ -161,8 +170,8 @@ pub fn name_and_at<'a>(rest: Rest<'a>, symbol: Symbol) -> Read<'a, &'a [u8]>
 }
 
 /// A number.
-pub fn number_at<'a>(rest: Rest<'a>) -> Read<'a, u32>
-    ensures { Gives (λ n. n) result (number_of rest.entry.at (kinds rest.entry.tokens.now)) }
+pub fn number_at<'a>(rest: Rest<'a>) -> Read<'a, Placed<u32>>
+    ensures { Gives number_tree result (number_of rest.entry.at (kinds rest.entry.tokens.now)) }
 {
     match at_front(rest) {
         (Front::Number(number), after) => Ok((number, after)),

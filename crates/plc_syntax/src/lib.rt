@@ -23,7 +23,8 @@ pub use depth::depth_is_that_of_braces;
 pub use fault::Fault;
 pub use form::{
     Argument, Atom, Bound, Call, Cas, Condition, Declaration, Flag, Function, GhostSet, GhostValue,
-    Initial, Literal, Place, Primitive, Refresh, Relation, Set, Shared, Term, Test, Value, Watch,
+    Initial, Literal, Name, Place, Placed, Primitive, Refresh, Relation, Set, Shared, Term, Test,
+    Value, Watch,
 };
 pub use front::{
     Front, Read, at_front, comma_name_at, first, name_and_at, name_at, stuck, symbol_at, word_at,

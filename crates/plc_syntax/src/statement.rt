@@ -2,22 +2,25 @@
 // and what a call holds besides its name.
 ghost use Rattle.plc_syntax.specs.Syntax.{kinds};
 ghost use Rattle.plc_syntax.specs.Views.{place_tree, value_tree, atom_tree, ghost_value_tree, primitive_tree};
-ghost use Rattle.plc_syntax.specs.Views.{ghost_set_tree, text_or_none, argument_tree};
+ghost use Rattle.plc_syntax.specs.Views.{ghost_set_tree, name_tree, name_or_none, argument_tree};
 ghost use Rattle.plc_syntax.specs.Forms.{place_of_name, place_of, value_of, atom_of, ghost_value_of, field_tail_of};
 ghost use Rattle.plc_syntax.specs.Forms.{named_tail_of, ghost_set_of, primitive_of, primitive_line_of, argument_of};
 ghost use Rattle.plc_syntax.specs.Forms.{during_of};
 ghost use Rattle.plc_syntax.specs.Answers.{Gives};
 
 use crate::condition::test_at;
-use crate::form::{Argument, Atom, GhostSet, GhostValue, Place, Primitive, Refresh, Set, Value};
+use crate::form::{
+    Argument, Atom, GhostSet, GhostValue, Name, Place, Primitive, Refresh, Set, Value,
+};
 use crate::front::{Front, Read, at_front, name_and_at, name_at, stuck};
 use crate::rest::Rest;
 use crate::{in_turn, within};
 use plc_lex::{Keyword, Symbol};
 
 /// A place, from after its name.
-pub fn place_of_name_at<'a>(name: &'a [u8], rest: Rest<'a>) -> Read<'a, Place<'a>>
-    ensures { Gives place_tree result (place_of_name name.now rest.entry.at (kinds rest.entry.tokens.now)) }
+pub fn place_of_name_at<'a>(name: Name<'a>, rest: Rest<'a>) -> Read<'a, Place<'a>>
+    ensures { Gives place_tree result
+        (place_of_name (name_tree name.entry) rest.entry.at (kinds rest.entry.tokens.now)) }
 {
     match at_front(rest) {
         (Front::Symbol(Symbol::Dot), after) =>
@@ -41,12 +44,13 @@ pub fn value_at<'a>(rest: Rest<'a>) -> Read<'a, Value<'a>>
     ensures { Gives value_tree result (value_of rest.entry.at (kinds rest.entry.tokens.now)) }
 {
     match at_front(rest) {
-        (Front::Word(Keyword::Null), after) => Ok((Value::Null, after)),
-        (Front::Word(Keyword::New), after) => Ok((Value::New, after)),
+        (Front::Word(Keyword::Null), after) => Ok((Value::Null(rest.at), after)),
+        (Front::Word(Keyword::New), after) => Ok((Value::New(rest.at), after)),
         (Front::Number(n), after) => Ok((Value::Number(n), after)),
-        (Front::Word(Keyword::Mark), after) => within!(Value::Mark(name); name = name_at(after)),
+        (Front::Word(Keyword::Mark), after) =>
+            within!(Value::Mark(rest.at, name); name = name_at(after)),
         (Front::Word(Keyword::Unmark), after) =>
-            within!(Value::Unmark(name); name = name_at(after)),
+            within!(Value::Unmark(rest.at, name); name = name_at(after)),
         (Front::Name(name), after) =>
             within!(Value::Place(place); place = place_of_name_at(name, after)),
         _ => Err(stuck(rest)),
@@ -58,7 +62,7 @@ pub fn atom_at<'a>(rest: Rest<'a>) -> Read<'a, Atom<'a>>
     ensures { Gives atom_tree result (atom_of rest.entry.at (kinds rest.entry.tokens.now)) }
 {
     match at_front(rest) {
-        (Front::Word(Keyword::Null), after) => Ok((Atom::Null, after)),
+        (Front::Word(Keyword::Null), after) => Ok((Atom::Null(rest.at), after)),
         (Front::Number(n), after) => Ok((Atom::Number(n), after)),
         (Front::Name(name), after) => Ok((Atom::Name(name), after)),
         _ => Err(stuck(rest)),
@@ -71,15 +75,16 @@ fn ghost_value_at<'a>(rest: Rest<'a>) -> Read<'a, GhostValue<'a>>
 {
     match at_front(rest) {
         (Front::Name(name), after) => Ok((GhostValue::Name(name), after)),
-        (Front::Word(Keyword::Me), after) => Ok((GhostValue::Me, after)),
-        (Front::Word(Keyword::None), after) => Ok((GhostValue::None, after)),
+        (Front::Word(Keyword::Me), after) => Ok((GhostValue::Me(rest.at), after)),
+        (Front::Word(Keyword::None), after) => Ok((GhostValue::None(rest.at), after)),
         _ => Err(stuck(rest)),
     }
 }
 
 /// What follows a name and a dot on the left.
-fn field_tail_at<'a>(name: &'a [u8], rest: Rest<'a>) -> Read<'a, Primitive<'a>>
-    ensures { Gives primitive_tree result (field_tail_of name.now rest.entry.at (kinds rest.entry.tokens.now)) }
+fn field_tail_at<'a>(name: Name<'a>, rest: Rest<'a>) -> Read<'a, Primitive<'a>>
+    ensures { Gives primitive_tree result
+        (field_tail_of (name_tree name.entry) rest.entry.at (kinds rest.entry.tokens.now)) }
 {
     in_turn!(
         (field, rest) = name_at(rest);
@@ -94,8 +99,9 @@ fn field_tail_at<'a>(name: &'a [u8], rest: Rest<'a>) -> Read<'a, Primitive<'a>>
 }
 
 /// What follows a name on the left.
-pub fn named_tail_at<'a>(name: &'a [u8], rest: Rest<'a>) -> Read<'a, Primitive<'a>>
-    ensures { Gives primitive_tree result (named_tail_of name.now rest.entry.at (kinds rest.entry.tokens.now)) }
+pub fn named_tail_at<'a>(name: Name<'a>, rest: Rest<'a>) -> Read<'a, Primitive<'a>>
+    ensures { Gives primitive_tree result
+        (named_tail_of (name_tree name.entry) rest.entry.at (kinds rest.entry.tokens.now)) }
 {
     match at_front(rest) {
         (Front::Symbol(Symbol::Assign), after) =>
@@ -156,8 +162,8 @@ pub fn argument_at<'a>(rest: Rest<'a>) -> Read<'a, Argument<'a>>
 }
 
 /// The label between a call and its return, which may be left out.
-pub fn during_at<'a>(rest: Rest<'a>) -> Read<'a, Option<&'a [u8]>>
-    ensures { Gives text_or_none result (during_of rest.entry.at (kinds rest.entry.tokens.now)) }
+pub fn during_at<'a>(rest: Rest<'a>) -> Read<'a, Option<Name<'a>>>
+    ensures { Gives name_or_none result (during_of rest.entry.at (kinds rest.entry.tokens.now)) }
 {
     match at_front(rest) {
         (Front::Word(Keyword::During), after) => within!(Some(name); name = name_at(after)),

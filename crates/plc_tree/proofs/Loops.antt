@@ -4,8 +4,10 @@ use Rattle.std.proofs.Common.{ap}
 use Rattle.plc_lex.specs.declared.token.TokenKind.{TokenKind}
 use Rattle.plc_syntax.specs.declared.fault.Fault.{Fault}
 use Rattle.plc_syntax.specs.declared.fault.Fault.TheVariants as faults
-use Rattle.plc_syntax.specs.Trees.{StatementTree, BlockTree, NoStatement, Then, OrTree, NoOr, OrBlock}
-use Rattle.plc_syntax.specs.Forms.{Read, ◌>>=◌, first_is, list_of}
+use Rattle.plc_syntax.specs.Trees.{Placed, StatementTree, BlockTree, NoStatement, Then, OrTree, NoOr, OrBlock}
+use Rattle.plc_syntax.specs.Views.{placed_as}
+use Rattle.plc_syntax.specs.declared.form.Placed.{Placed as PlacedForm}
+use Rattle.plc_syntax.specs.Forms.{Read, ◌>>=◌, at_place, placed_of, first_is, list_of}
 use Rattle.plc_syntax.specs.Answers.{FailsAs}
 use Rattle.plc_tree.specs.declared.tree.Stmt.{Stmt}
 use Rattle.plc_tree.specs.Forms.{begins_statement, begins_or, or_block_of, statement_of, statements_of, ors_of}
@@ -128,8 +130,15 @@ module _ {X T : Type 0} (tree : X → T) (begins : TokenKind → Bool) (item : �
 
 -- ---- statements, and further blocks of a choice
 
-abbrev pub statements_before : List Stmt → Read BlockTree → Read BlockTree
-statements_before ss r = before statement_tree Then ss r
+-- a statement after others
+abbrev after : Placed StatementTree → BlockTree → BlockTree
+after s b = Then s.at s.value b
+
+abbrev placed_tree : PlacedForm Stmt → Placed StatementTree
+placed_tree s = placed_as statement_tree s
+
+abbrev pub statements_before : List (PlacedForm Stmt) → Read BlockTree → Read BlockTree
+statements_before ss r = before placed_tree after ss r
 
 abbrev pub blocks_before : List BlockTree → Read OrTree → Read OrTree
 blocks_before bs r = before (λ b. b) OrBlock bs r
@@ -141,36 +150,39 @@ abbrev or_item : ℕ → ℕ → Tokens → Read BlockTree
 or_item n at ts = or_block_of (block_of n) at ts
 
 statements_next : (k n at : ℕ) (ts : Tokens) → k ≡ suc n → statements_of k at ts
-    ≡ Next statement_tree Then (first_is begins_statement ts) NoStatement (statement_item n at ts) (statements_of n) at
-    ts
+    ≡ Next placed_tree after (first_is begins_statement ts) NoStatement (placed_of (statement_item n) at ts)
+    (statements_of n) at ts
 statements_next k n at ts l = ap (λ (k : ℕ). statements_of k at ts) l
 
 ors_next : (k n at : ℕ) (ts : Tokens) → k ≡ suc n → ors_of k at ts
     ≡ Next {X = BlockTree} (λ b. b) OrBlock (first_is begins_or ts) NoOr (or_item n at ts) (ors_of n) at ts
 ors_next k n at ts l = ap (λ (k : ℕ). ors_of k at ts) l
 
-pub statements_turn : (k n at at' : ℕ) (ts ts' : Tokens) (ss : List Stmt) (s : Stmt) → k ≡ suc n
-    → first_is begins_statement ts ≡ true → statement_item n at ts ≡ Ok (statement_tree s, at', ts')
+pub statements_turn : (k n at at' : ℕ) (ts ts' : Tokens) (ss : List (PlacedForm Stmt)) (s : PlacedForm Stmt) → k ≡ suc n
+    → first_is begins_statement ts ≡ true → s.at ≡ at → statement_item n at ts ≡ Ok (statement_tree s.value, at', ts')
     → statements_before ss (statements_of k at ts) ≡ statements_before (ss ++ s ∷ []) (statements_of n at' ts')
-statements_turn k n at at' ts ts' ss s l h said = ap (statements_before ss) (statements_next k n at ts l)
-    ∙ turn statement_tree Then NoStatement block_tree refl (λ x xs. refl) (first_is begins_statement ts)
-    (statement_item n at ts) (statements_of n) at at' ts ts' ss s h said
+statements_turn k n at at' ts ts' ss s l h there said = ap (statements_before ss) (statements_next k n at ts l)
+    ∙ turn placed_tree after NoStatement block_tree refl (λ x xs. refl) (first_is begins_statement ts)
+    (placed_of (statement_item n) at ts) (statements_of n) at at' ts ts' ss s h
+    (ap (λ o. o >>= λ x end ts. Ok (at_place at x, end, ts)) said
+    ∙ ap (λ (a : ℕ). Ok (at_place a (statement_tree s.value), at', ts')) (sym there))
 
-pub statements_end : (k n at : ℕ) (ts : Tokens) (ss : List Stmt) (total : Read BlockTree) → k ≡ suc n
+pub statements_end : (k n at : ℕ) (ts : Tokens) (ss : List (PlacedForm Stmt)) (total : Read BlockTree) → k ≡ suc n
     → first_is begins_statement ts ≡ false → statements_before ss (statements_of k at ts) ≡ total
     → total ≡ Ok (block_tree ss, at, ts)
-statements_end k n at ts ss total l h so_far = end statement_tree Then NoStatement block_tree refl (λ x xs. refl)
-    (first_is begins_statement ts) (statement_item n at ts) (statements_of n) at ts ss total h
+statements_end k n at ts ss total l h so_far = end placed_tree after NoStatement block_tree refl (λ x xs. refl)
+    (first_is begins_statement ts) (placed_of (statement_item n) at ts) (statements_of n) at ts ss total h
     (sym (ap (statements_before ss) (statements_next k n at ts l)) ∙ so_far)
 
-pub statements_stop : (e : Fault) (k n at : ℕ) (ts : Tokens) (ss : List Stmt) (total : Read BlockTree) → k ≡ suc n
-    → first_is begins_statement ts ≡ true → FailsAs e (statement_item n at ts)
+pub statements_stop : (e : Fault) (k n at : ℕ) (ts : Tokens) (ss : List (PlacedForm Stmt)) (total : Read BlockTree)
+    → k ≡ suc n → first_is begins_statement ts ≡ true → FailsAs e (statement_item n at ts)
     → statements_before ss (statements_of k at ts) ≡ total → FailsAs e total
-statements_stop e k n at ts ss total l h said so_far = stop statement_tree Then e NoStatement
-    (first_is begins_statement ts) (statement_item n at ts) (statements_of n) at ts ss total h said
+statements_stop e k n at ts ss total l h said so_far = stop placed_tree after e NoStatement
+    (first_is begins_statement ts) (placed_of (statement_item n) at ts) (statements_of n) at ts ss total h
+    (fails_on e (statement_item n at ts) _ said)
     (sym (ap (statements_before ss) (statements_next k n at ts l)) ∙ so_far)
 
-pub statements_out : (k at : ℕ) (ts : Tokens) (ss : List Stmt) (total : Read BlockTree) → k ≡ 0
+pub statements_out : (k at : ℕ) (ts : Tokens) (ss : List (PlacedForm Stmt)) (total : Read BlockTree) → k ≡ 0
     → statements_before ss (statements_of k at ts) ≡ total → total ≡ Err at
 statements_out k at ts ss total l so_far =
     sym so_far ∙ ap (statements_before ss) (ap (λ (k : ℕ). statements_of k at ts) l)

@@ -1,8 +1,9 @@
 -- A block within a statement is smaller than the block in which the statement stands.
-use Rattle.std.specs.Prelude.{◌+◌, ◌≤◌, List, [], ◌∷◌, Some, None}
+use Rattle.std.specs.Prelude.{ℕ, ◌+◌, ◌≤◌, max, List, [], ◌∷◌, Some, None}
 use Rattle.std.proofs.Common.{arith}
 use denote.Param.Weighed.{most}
 use Rattle.plc_syntax.specs.Trees.{BlockTree}
+use Rattle.plc_syntax.specs.declared.form.Placed.{Placed}
 use Rattle.plc_tree.specs.declared.tree.Stmt.{Stmt}
 use Rattle.plc_tree.specs.declared.tree.Stmt.TheVariants as stmts
 use Rattle.plc_tree.specs.declared.tree.Block.TheDeep.{deep-Stmt}
@@ -21,7 +22,11 @@ statement_falls (stmts.If c b (Some e)) = omega arith
 statement_falls (stmts.Choose a b os) = omega (arith, choice_falls os.items)
 statement_falls _ = omega arith
 
+-- what a statement at its place holds
+abbrev placed_deep : Placed Stmt → ℕ
+placed_deep s = max 0 (max (deep-Stmt s.value) 0)
+
 -- no block of a statement is larger than the statements
-pub statements_fall : (ss : List Stmt) → most deep-Stmt ss ≤ block_size (block_tree ss)
+pub statements_fall : (ss : List (Placed Stmt)) → most placed_deep ss ≤ block_size (block_tree ss)
 statements_fall [] = omega arith
-statements_fall (s ∷ ss) = omega (arith, statement_falls s, statements_fall ss)
+statements_fall (s ∷ ss) = omega (arith, statement_falls s.value, statements_fall ss)

@@ -10,7 +10,8 @@ use Rattle.plc_lex.specs.declared.token.Keyword.TheVariants.{Atomic, If, Else, L
 use Rattle.plc_lex.specs.declared.token.Keyword.TheVariants.{Label, Active, Assume, Outline, Inv, Over, At}
 use Rattle.plc_lex.specs.declared.token.Symbol.TheVariants.{OpenBrace, CloseBrace, OpenParen, CloseParen, Semicolon}
 use Rattle.plc_lex.specs.declared.token.Symbol.TheVariants.{Comma, Colon}
-use Rattle.plc_syntax.specs.Trees.{Text, FieldTree, FunctionTree, GhostKindTree, OneOf, OfThreads, GhostTree, Auxiliary}
+use Rattle.plc_syntax.specs.Trees.{Text, Placed, FieldTree, FunctionTree, GhostKindTree, OneOf, OfThreads, GhostTree}
+use Rattle.plc_syntax.specs.Trees.{Auxiliary}
 use Rattle.plc_syntax.specs.Trees.{InitialTree, PrimitiveTree, StatementTree, PrimitiveStatement, AtomicStatement}
 use Rattle.plc_syntax.specs.Trees.{CallStatement, IfStatement, ChooseStatement, LoopStatement, BreakStatement}
 use Rattle.plc_syntax.specs.Trees.{ReturnStatement, LabelStatement, BlockTree, NoStatement, Then, ElseTree, NoElse}
@@ -18,7 +19,7 @@ use Rattle.plc_syntax.specs.Trees.{ElseBlock, OrTree, NoOr, OrBlock, OpTree, Ope
 use Rattle.plc_syntax.specs.Trees.{ItemTree, InvariantItem, OverItem, AtItem, OutlineTree, Outlined, FileTree}
 use Rattle.plc_syntax.specs.Trees.{ConditionTree}
 use Rattle.plc_syntax.specs.Forms.{Reader, ◌>>=◌, ◌>>◌, Next, led, alone, first_is, list_of, word_of, symbol_of}
-use Rattle.plc_syntax.specs.Forms.{ended_by, name_of, name_and}
+use Rattle.plc_syntax.specs.Forms.{ended_by, at_place, placed_of, name_of, name_and}
 use Rattle.plc_syntax.specs.Forms.{comma_name_of, condition_of, named_tail_of, primitive_line_of, initial_of}
 use Rattle.plc_syntax.specs.Forms.{argument_of, during_of, field_of, shared_of, function_of, watch_of, literal_of}
 use Rattle.plc_syntax.specs.Forms.{or_literal_of, bound_of, depth_of}
@@ -39,7 +40,7 @@ abbrev pub begins_comma_name : TokenKind → Bool
 begins_comma_name (Symbol Comma) = true
 begins_comma_name _ = false
 
-abbrev pub comma_names_of : ℕ → Reader (List Text)
+abbrev pub comma_names_of : ℕ → Reader (List (Placed Text))
 comma_names_of m at ts = list_of begins_comma_name (λ m at ts. comma_name_of at ts) m at ts
 
 -- ---- primitives
@@ -52,8 +53,8 @@ begins_primitive (Word Assume) = true
 begins_primitive (Word Skip) = true
 begins_primitive _ = false
 
-abbrev pub primitives_of : ℕ → Reader (List PrimitiveTree)
-primitives_of m at ts = list_of begins_primitive (λ m at ts. primitive_line_of at ts) m at ts
+abbrev pub primitives_of : ℕ → Reader (List (Placed PrimitiveTree))
+primitives_of m at ts = list_of begins_primitive (λ m at ts. placed_of primitive_line_of at ts) m at ts
 
 -- ---- the assignments of `init`
 
@@ -62,23 +63,23 @@ begins_initial (Name n) = true
 begins_initial (Word Ghost) = true
 begins_initial _ = false
 
-abbrev pub initials_of : ℕ → Reader (List InitialTree)
-initials_of m at ts = list_of begins_initial (λ m at ts. initial_of at ts) m at ts
+abbrev pub initials_of : ℕ → Reader (List (Placed InitialTree))
+initials_of m at ts = list_of begins_initial (λ m at ts. placed_of initial_of at ts) m at ts
 
 -- ---- statements without blocks of statements
 
 -- a call, from after its opening parenthesis
-abbrev pub call_of : Text → Reader StatementTree
+abbrev pub call_of : Placed Text → Reader StatementTree
 call_of f at ts = argument_of at ts >>= λ a at ts.
     symbol_of CloseParen at ts >> λ at ts. during_of at ts >>= λ d at ts.
     symbol_of Semicolon at ts >> λ at ts. Ok (CallStatement f a d, at, ts)
 
-abbrev pub named_statement_next : Text → Next StatementTree
-named_statement_next n (Symbol OpenParen) = Some (λ at ts. call_of n at ts)
-named_statement_next n _ = None
+abbrev pub named_statement_next : Placed Text → Next StatementTree
+named_statement_next n place (Symbol OpenParen) = Some (λ at ts. call_of n at ts)
+named_statement_next n place _ = None
 
 -- a call or a primitive, from after the name with which it begins
-abbrev pub named_statement_of : Text → Reader StatementTree
+abbrev pub named_statement_of : Placed Text → Reader StatementTree
 named_statement_of n at ts = led (named_statement_next n) (named_tail_of n at ts >>= λ p at ts.
     symbol_of Semicolon at ts >> λ at ts. Ok (PrimitiveStatement p, at, ts)) at ts
 
@@ -110,8 +111,8 @@ unfoldable pub loop_of : BlockReader → Reader StatementTree
 loop_of block at ts = braced_of block at ts >>= λ b at ts. Ok (LoopStatement b, at, ts)
 
 abbrev pub else_next : BlockReader → Next ElseTree
-else_next block (Word Else) = Some (λ at ts. braced_of block at ts >>= λ b at ts. Ok (ElseBlock b, at, ts))
-else_next block _ = None
+else_next block place (Word Else) = Some (λ at ts. braced_of block at ts >>= λ b at ts. Ok (ElseBlock b, at, ts))
+else_next block place _ = None
 
 -- an `else` and its block, which may be left out
 unfoldable pub else_of : BlockReader → Reader ElseTree
@@ -132,15 +133,15 @@ choose_of block ors at ts = braced_of block at ts >>= λ a at ts. word_of Or at 
     braced_of block at ts >>= λ b at ts. ors at ts >>= λ os at ts. Ok (ChooseStatement a b os, at, ts)
 
 abbrev pub statement_next : BlockReader → OrsReader → ℕ → Next StatementTree
-statement_next block ors m (Name f) = Some (λ at ts. named_statement_of f at ts)
-statement_next block ors m (Word Atomic) = Some (λ at ts. atomic_of m at ts)
-statement_next block ors m (Word If) = Some (λ at ts. if_of block at ts)
-statement_next block ors m (Word Choose) = Some (λ at ts. choose_of block ors at ts)
-statement_next block ors m (Word Loop) = Some (λ at ts. loop_of block at ts)
-statement_next block ors m (Word Break) = Some (λ at ts. ended_of BreakStatement at ts)
-statement_next block ors m (Word Return) = Some (λ at ts. ended_of ReturnStatement at ts)
-statement_next block ors m (Word Label) = Some (λ at ts. label_of at ts)
-statement_next block ors m _ = None
+statement_next block ors m place (Name f) = Some (λ at ts. named_statement_of (at_place place f) at ts)
+statement_next block ors m place (Word Atomic) = Some (λ at ts. atomic_of m at ts)
+statement_next block ors m place (Word If) = Some (λ at ts. if_of block at ts)
+statement_next block ors m place (Word Choose) = Some (λ at ts. choose_of block ors at ts)
+statement_next block ors m place (Word Loop) = Some (λ at ts. loop_of block at ts)
+statement_next block ors m place (Word Break) = Some (λ at ts. ended_of BreakStatement at ts)
+statement_next block ors m place (Word Return) = Some (λ at ts. ended_of ReturnStatement at ts)
+statement_next block ors m place (Word Label) = Some (λ at ts. label_of at ts)
+statement_next block ors m place _ = None
 
 unfoldable pub statement_of : BlockReader → OrsReader → ℕ → Reader StatementTree
 statement_of block ors m at ts = led (statement_next block ors m) (step_of at ts) at ts
@@ -166,8 +167,8 @@ begins_or (Word Or) = true
 begins_or _ = false
 
 abbrev pub or_block_next : BlockReader → Next BlockTree
-or_block_next block (Word Or) = Some (λ at ts. braced_of block at ts)
-or_block_next block _ = None
+or_block_next block place (Word Or) = Some (λ at ts. braced_of block at ts)
+or_block_next block place _ = None
 
 -- a further block of a choice
 abbrev pub or_block_of : BlockReader → BlockReader
@@ -178,8 +179,9 @@ abbrev mutual
   pub statements_of : ℕ → BlockReader
   statements_of zero at ts = Err at
   statements_of (suc n) at ts = cond (first_is begins_statement ts)
-      (statement_of (λ at ts. closed_of (λ at ts. statements_of n at ts) at ts) (λ at ts. ors_of n at ts) n at ts
-      >>= λ s at ts. statements_of n at ts >>= λ b at ts. Ok (Then s b, at, ts)) (Ok (NoStatement, at, ts))
+      (placed_of (statement_of (λ at ts. closed_of (λ at ts. statements_of n at ts) at ts) (λ at ts. ors_of n at ts) n)
+      at ts >>= λ s at ts. statements_of n at ts >>= λ b at ts. Ok (Then s.at s.value b, at, ts))
+      (Ok (NoStatement, at, ts))
 
   -- at most so many further blocks of a choice
   pub ors_of : ℕ → OrsReader
@@ -206,7 +208,7 @@ abbrev pub begins_shared : TokenKind → Bool
 begins_shared (Word Shared) = true
 begins_shared _ = false
 
-abbrev pub pointers_of : ℕ → Reader (List Text)
+abbrev pub pointers_of : ℕ → Reader (List (Placed Text))
 pointers_of m at ts = list_of begins_shared (λ m at ts. shared_of at ts) m at ts
 
 abbrev pub begins_function : TokenKind → Bool
@@ -222,9 +224,9 @@ values_of m at ts = name_of at ts >>= λ v at ts. closed_of (comma_names_of m) a
     Ok (OneOf v vs, at, ts)
 
 abbrev pub ghost_kind_next : ℕ → Next GhostKindTree
-ghost_kind_next m (Symbol OpenBrace) = Some (λ at ts. values_of m at ts)
-ghost_kind_next m (Word Thread) = alone OfThreads
-ghost_kind_next m _ = None
+ghost_kind_next m place (Symbol OpenBrace) = Some (λ at ts. values_of m at ts)
+ghost_kind_next m place (Word Thread) = alone OfThreads
+ghost_kind_next m place _ = None
 
 abbrev pub ghost_kind_of : ℕ → Reader GhostKindTree
 ghost_kind_of m at ts = led (ghost_kind_next m) (Err at) at ts
@@ -235,8 +237,8 @@ ghost_tail_of m at ts = name_of at ts >>= λ n at ts. ghost_kind_of m at ts >>= 
     symbol_of Semicolon at ts >> λ at ts. Ok (Auxiliary n k, at, ts)
 
 abbrev pub ghost_next : ℕ → Next GhostTree
-ghost_next m (Word Ghost) = Some (λ at ts. ghost_tail_of m at ts)
-ghost_next m _ = None
+ghost_next m place (Word Ghost) = Some (λ at ts. ghost_tail_of m at ts)
+ghost_next m place _ = None
 
 abbrev pub begins_ghost : TokenKind → Bool
 begins_ghost (Word Ghost) = true
@@ -248,25 +250,25 @@ ghost_of m at ts = led (ghost_next m) (Err at) at ts
 abbrev pub ghosts_of : ℕ → Reader (List GhostTree)
 ghosts_of m at ts = list_of begins_ghost (λ m at ts. ghost_of m at ts) m at ts
 
-abbrev pub init_next : ℕ → Next (Option (List InitialTree))
-init_next m (Word Init) =
+abbrev pub init_next : ℕ → Next (Option (List (Placed InitialTree)))
+init_next m place (Word Init) =
     Some (λ at ts. braced_of (closed_of (initials_of m)) at ts >>= λ sets at ts. Ok (Some sets, at, ts))
-init_next m _ = None
+init_next m place _ = None
 
 -- the init block, which may be left out
-abbrev pub init_of : ℕ → Reader (Option (List InitialTree))
+abbrev pub init_of : ℕ → Reader (Option (List (Placed InitialTree)))
 init_of m at ts = led (init_next m) (Ok (None, at, ts)) at ts
 
 -- ---- operations
 
-abbrev pub parameters_next : ℕ → Next (List Text)
-parameters_next m (Name n) =
-    Some (λ at ts. ended_by CloseParen (comma_names_of m) at ts >>= λ ns at ts. Ok (n ∷ ns, at, ts))
-parameters_next m (Symbol CloseParen) = alone []
-parameters_next m _ = None
+abbrev pub parameters_next : ℕ → Next (List (Placed Text))
+parameters_next m place (Name n) =
+    Some (λ at ts. ended_by CloseParen (comma_names_of m) at ts >>= λ ns at ts. Ok (at_place place n ∷ ns, at, ts))
+parameters_next m place (Symbol CloseParen) = alone []
+parameters_next m place _ = None
 
 -- parameters, of which there may be none, and the closing parenthesis
-abbrev pub parameters_of : ℕ → Reader (List Text)
+abbrev pub parameters_of : ℕ → Reader (List (Placed Text))
 parameters_of m at ts = led (parameters_next m) (Err at) at ts
 
 -- an operation, from after its word
@@ -276,8 +278,8 @@ op_tail_of m at ts = name_and OpenParen at ts >>= λ n at ts. parameters_of m at
     block_of m at ts >>= λ b at ts. Ok (Operates n ps ls b, at, ts)
 
 abbrev pub op_next : ℕ → Next OpTree
-op_next m (Word Op) = Some (λ at ts. op_tail_of m at ts)
-op_next m _ = None
+op_next m place (Word Op) = Some (λ at ts. op_tail_of m at ts)
+op_next m place _ = None
 
 abbrev pub begins_op : TokenKind → Bool
 begins_op (Word Op) = true
@@ -286,12 +288,12 @@ begins_op _ = false
 abbrev pub op_of : ℕ → Reader OpTree
 op_of m at ts = led (op_next m) (Err at) at ts
 
-abbrev pub ops_of : ℕ → Reader (List OpTree)
-ops_of m at ts = list_of begins_op (λ m at ts. op_of m at ts) m at ts
+abbrev pub ops_of : ℕ → Reader (List (Placed OpTree))
+ops_of m at ts = list_of begins_op (λ m at ts. placed_of (op_of m) at ts) m at ts
 
 -- ---- clauses of an outline
 
-abbrev pub or_literals_of : ℕ → Reader (List LiteralTree)
+abbrev pub or_literals_of : ℕ → Reader (List (Placed LiteralTree))
 or_literals_of m at ts = list_of begins_or (λ m at ts. or_literal_of at ts) m at ts
 
 -- a clause and its semicolon
@@ -312,10 +314,10 @@ at_of m at ts = name_of at ts >>= λ n at ts. ended_by Colon (comma_names_of m) 
     clause_of m at ts >>= λ c at ts. Ok (AtItem n ns c, at, ts)
 
 abbrev pub item_next : ℕ → Next ItemTree
-item_next m (Word Inv) = Some (λ at ts. clause_of m at ts >>= λ c at ts. Ok (InvariantItem c, at, ts))
-item_next m (Word Over) = Some (λ at ts. over_of m at ts)
-item_next m (Word At) = Some (λ at ts. at_of m at ts)
-item_next m _ = None
+item_next m place (Word Inv) = Some (λ at ts. clause_of m at ts >>= λ c at ts. Ok (InvariantItem c, at, ts))
+item_next m place (Word Over) = Some (λ at ts. over_of m at ts)
+item_next m place (Word At) = Some (λ at ts. at_of m at ts)
+item_next m place _ = None
 
 abbrev pub begins_item : TokenKind → Bool
 begins_item (Word Inv) = true
@@ -338,8 +340,8 @@ abbrev pub outline_of : ℕ → Reader OutlineTree
 outline_of m at ts = word_of Outline at ts >> λ at ts. outline_tail_of m at ts
 
 abbrev pub outlined_next : ℕ → Next (Option OutlineTree)
-outlined_next m (Word Outline) = Some (λ at ts. outline_tail_of m at ts >>= λ o at ts. Ok (Some o, at, ts))
-outlined_next m _ = None
+outlined_next m place (Word Outline) = Some (λ at ts. outline_tail_of m at ts >>= λ o at ts. Ok (Some o, at, ts))
+outlined_next m place _ = None
 
 -- an outline, which may be left out
 abbrev pub outlined_of : ℕ → Reader (Option OutlineTree)
@@ -348,7 +350,7 @@ outlined_of m at ts = led (outlined_next m) (Ok (None, at, ts)) at ts
 -- ---- the file
 
 -- "struct", the struct's name and its fields
-abbrev pub struct_of : ℕ → Reader (Text × List FieldTree)
+abbrev pub struct_of : ℕ → Reader (Placed Text × List FieldTree)
 struct_of m at ts = word_of Struct at ts >> λ at ts. name_of at ts >>= λ n at ts.
     braced_of (closed_of (fields_of m)) at ts >>= λ fs at ts. Ok ((n, fs), at, ts)
 

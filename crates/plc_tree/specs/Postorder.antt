@@ -1,7 +1,8 @@
 -- A block as the constructors of its tree in postorder, from which the block is read back: how a proof tells blocks
 -- apart. Nothing else rests on it.
 use Rattle.std.proofs.Common.{◌≡◌, ℕ, ◌+◌, List, [], ◌∷◌, Option, refl, ap, ◌∙◌}
-use Rattle.plc_syntax.specs.Trees.{Text, PrimitiveTree, ArgumentTree, ConditionTree, StatementTree, PrimitiveStatement}
+use Rattle.plc_syntax.specs.Trees.{Text, Placed, PrimitiveTree, ArgumentTree, ConditionTree, StatementTree}
+use Rattle.plc_syntax.specs.Trees.{PrimitiveStatement}
 use Rattle.plc_syntax.specs.Trees.{AtomicStatement, CallStatement, IfStatement, ChooseStatement, LoopStatement}
 use Rattle.plc_syntax.specs.Trees.{BreakStatement, ReturnStatement, LabelStatement, BlockTree, NoStatement, Then}
 use Rattle.plc_syntax.specs.Trees.{ElseTree, NoElse, ElseBlock, OrTree, NoOr, OrBlock}
@@ -21,7 +22,7 @@ abbrev mutual
 
   pub block_size : BlockTree → ℕ
   block_size NoStatement = 1
-  block_size (Then s b) = statement_size s + block_size b
+  block_size (Then at s b) = statement_size s + block_size b
 
   pub else_size : ElseTree → ℕ
   else_size NoElse = 0
@@ -34,16 +35,16 @@ abbrev mutual
 -- the head of a tree: its constructor, without the trees that it takes: those were read before
 pub data Head : Type 0 where
   PrimitiveHead : PrimitiveTree → Head
-  AtomicHead : List PrimitiveTree → Head
-  CallHead : Text → ArgumentTree → Option Text → Head
+  AtomicHead : List (Placed PrimitiveTree) → Head
+  CallHead : Placed Text → ArgumentTree → Option (Placed Text) → Head
   IfHead : ConditionTree → Head
   ChooseHead : Head
   LoopHead : Head
   BreakHead : Head
   ReturnHead : Head
-  LabelHead : Text → Head
+  LabelHead : Placed Text → Head
   EmptyHead : Head
-  ThenHead : Head
+  ThenHead : ℕ → Head
   NoElseHead : Head
   ElseHead : Head
   NoOrHead : Head
@@ -64,7 +65,7 @@ abbrev mutual
 
   pub block_heads : BlockTree → List Head → List Head
   block_heads NoStatement rest = EmptyHead ∷ rest
-  block_heads (Then s b) rest = statement_heads s (block_heads b (ThenHead ∷ rest))
+  block_heads (Then at s b) rest = statement_heads s (block_heads b (ThenHead at ∷ rest))
 
   pub else_heads : ElseTree → List Head → List Head
   else_heads NoElse rest = NoElseHead ∷ rest
@@ -111,11 +112,11 @@ read_choose [] os r = r
 read_choose (b ∷ []) os r = r
 read_choose (b ∷ a ∷ bs) [] r = r
 
-abbrev pub read_then : List StatementTree → List BlockTree → Read → Read
-read_then (s ∷ ss) (b ∷ bs) r =
-    record { statements = ss; blocks = Then s b ∷ bs; elses = r.elses; ors = r.ors }
-read_then [] bs r = r
-read_then (s ∷ ss) [] r = r
+abbrev pub read_then : ℕ → List StatementTree → List BlockTree → Read → Read
+read_then at (s ∷ ss) (b ∷ bs) r =
+    record { statements = ss; blocks = Then at s b ∷ bs; elses = r.elses; ors = r.ors }
+read_then at [] bs r = r
+read_then at (s ∷ ss) [] r = r
 
 abbrev pub read_else : List BlockTree → Read → Read
 read_else (b ∷ bs) r =
@@ -140,7 +141,7 @@ read_head BreakHead r = with_statement BreakStatement r
 read_head ReturnHead r = with_statement ReturnStatement r
 read_head (LabelHead n) r = with_statement (LabelStatement n) r
 read_head EmptyHead r = with_block NoStatement r
-read_head ThenHead r = read_then r.statements r.blocks r
+read_head (ThenHead at) r = read_then at r.statements r.blocks r
 read_head NoElseHead r = with_else NoElse r
 read_head ElseHead r = read_else r.blocks r
 read_head NoOrHead r = with_or NoOr r
@@ -186,8 +187,8 @@ mutual
   reads_block : (b : BlockTree) (rest : List Head) (r : Read)
       → read_heads (block_heads b rest) r ≡ read_heads rest (with_block b r)
   reads_block NoStatement rest r = refl
-  reads_block (Then s b) rest r = reads_statement s (block_heads b (ThenHead ∷ rest)) r
-      ∙ reads_block b (ThenHead ∷ rest) (with_statement s r)
+  reads_block (Then at s b) rest r = reads_statement s (block_heads b (ThenHead at ∷ rest)) r
+      ∙ reads_block b (ThenHead at ∷ rest) (with_statement s r)
 
   reads_else : (e : ElseTree) (rest : List Head) (r : Read)
       → read_heads (else_heads e rest) r ≡ read_heads rest (with_else e r)

@@ -1,5 +1,5 @@
 -- How clauses say what an answer is due to, whichever tree it is.
-use Rattle.std.specs.Prelude.{◌≡◌, ◌⊎◌, List, Result, Ok, Err}
+use Rattle.std.specs.Prelude.{◌≡◌, ◌⊎◌, ◌+◌, ℕ, List, Result, Ok, Err}
 use Rattle.plc_lex.specs.declared.token.TokenKind.{TokenKind}
 use Rattle.plc_syntax.specs.Syntax.{OutlineFaultAt}
 use Rattle.plc_syntax.specs.declared.fault.Fault.{Fault}
@@ -15,7 +15,8 @@ pub record IsReadWhere {A E : Type 0} (memory : E) (answer : Result A E) (fact :
   pub only : (x : A) → answer ≡ Ok x → fact
   pub always : fact → ((x : A) × (answer ≡ Ok x)) ⊎ (answer ≡ Err memory)
 
--- no outline stands at the front, and the fault is at the place with which that is known, unless memory ran out
-abbrev pub OutlineStops : List TokenKind → Fault → Type 0
-OutlineStops ts (faults.Syntax at) = OutlineFaultAt ts at
-OutlineStops ts faults.Memory = Unit {0}
+-- no outline stands at the front of tokens of which the first is at this place, and the fault is at the place with
+-- which that is known, unless memory ran out
+abbrev pub OutlineStops : ℕ → List TokenKind → Fault → Type 0
+OutlineStops start ts (faults.Syntax at) = (place : ℕ) × OutlineFaultAt ts place × (at ≡ start + place)
+OutlineStops start ts faults.Memory = Unit {0}

@@ -8,7 +8,7 @@ use crate::form::{Auxiliary, AuxiliaryKind};
 use crate::list::{braced_list_at, ended_list_at};
 use plc_base::Items;
 use plc_lex::{Keyword, Symbol};
-use plc_syntax::{Front, Initial, Read, Rest, at_front, in_turn, name_at, stuck, within};
+use plc_syntax::{Front, Initial, Placed, Read, Rest, at_front, in_turn, name_at, stuck, within};
 use std::alloc::Global;
 
 /// The values of an auxiliary field, from after the opening brace.
@@ -60,7 +60,7 @@ pub fn init_at<'a>(
     alloc: Global,
     most: usize,
     rest: Rest<'a>,
-) -> Read<'a, Option<Items<Initial<'a>>>>
+) -> Read<'a, Option<Items<Placed<Initial<'a>>>>>
     ensures { Gives starts_tree result (init_of most rest.entry.at (kinds rest.entry.tokens.now)) }
 {
     match at_front(rest) {

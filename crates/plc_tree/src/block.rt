@@ -16,7 +16,7 @@ use crate::statement::{
 };
 use crate::tree::{Block, Stmt};
 use plc_lex::{Keyword, Symbol};
-use plc_syntax::{Front, Read, Rest, at_front, in_turn, stuck, symbol_at, within};
+use plc_syntax::{Front, Placed, Read, Rest, at_front, in_turn, stuck, symbol_at, within};
 use std::alloc::Global;
 
 /// Whether a statement begins with a word.
@@ -187,8 +187,8 @@ fn statements_at<'a>(alloc: Global, most: usize, start: Rest<'a>) -> Read<'a, Bl
             stmts.shrink_to_fit();
             return Ok((Block::new(stmts), rest));
         }
-        let (stmt, after) = statement_at(alloc, most - 1 - i, rest)?;
-        stmts.push(stmt)?;
+        let (value, after) = statement_at(alloc, most - 1 - i, rest)?;
+        stmts.push(Placed { at: rest.at, value })?;
         rest = after;
     }
     Err(stuck(rest))

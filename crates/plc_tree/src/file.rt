@@ -4,8 +4,7 @@
 // or a tree the tokens up to the brace begin a file. So no reader of forms counts blocks.
 ghost use Rattle.std.specs.Prelude.{◌≡◌, ◌<◌, ◌^◌, ℕ, length, IfOk, IfErr};
 ghost use Rattle.plc_syntax.specs.Nesting.{NoneTooDeep, SyntaxFaultAt, NestingFaultAt};
-ghost use Rattle.plc_syntax.specs.Syntax.{kinds, IsFile};
-ghost use Rattle.plc_syntax.specs.Trees.{file_tokens};
+ghost use Rattle.plc_syntax.specs.Syntax.{kinds, AreOfFile, IsFile};
 ghost use Rattle.plc_syntax.specs.Answers.{Gives};
 ghost use Rattle.plc_tree.specs.Forms.{struct_of, heading_of, file_of};
 ghost use Rattle.plc_tree.specs.FileViews.{struct_parts, heading_tree, file_tree};
@@ -22,8 +21,8 @@ use crate::outline::outlined_at;
 use plc_base::Items;
 use plc_lex::{Keyword, Token};
 use plc_syntax::{
-    Declaration, Fault, Function, Initial, Read, Rest, Shared, Watch, in_turn, name_at, stuck,
-    watch_at, within, word_at,
+    Declaration, Fault, Function, Initial, Name, Placed, Read, Rest, Shared, Watch, in_turn,
+    name_at, stuck, watch_at, within, word_at,
 };
 use std::alloc::Global;
 
@@ -31,7 +30,7 @@ use std::alloc::Global;
 #[derive(Drop)]
 pub struct Struct<'a> {
     /// How it is called.
-    pub name: &'a [u8],
+    pub name: Name<'a>,
     /// The fields of a node.
     pub fields: Items<Declaration<'a>>,
 }
@@ -50,7 +49,7 @@ pub struct Heading<'a> {
     /// The auxiliary fields.
     pub auxiliaries: Items<Auxiliary<'a>>,
     /// The init block, which may be left out.
-    pub starts: Option<Items<Initial<'a>>>,
+    pub starts: Option<Items<Placed<Initial<'a>>>>,
 }
 
 /// A file as a tree. It borrows the bytes of names from the tokens.
@@ -59,7 +58,7 @@ pub struct File<'a> {
     /// What stands before the operations.
     pub heading: Heading<'a>,
     /// The operations in order.
-    pub operations: Items<Operation<'a>>,
+    pub operations: Items<Placed<Operation<'a>>>,
     /// The outline, which may be left out.
     pub outline: Option<Outline<'a>>,
 }
@@ -106,7 +105,7 @@ fn file_at<'a>(alloc: Global, most: usize, rest: Rest<'a>) -> Read<'a, File<'a>>
 /// The tree of tokens, however deep its blocks stand.
 fn whole_file<'a>(alloc: Global, tokens: &'a [Token]) -> Result<File<'a>, Fault>
     requires { length tokens.now < 2 ^ 32 }
-    ensures tree { IfOk result (λ file. file_tokens (file_tree file) ≡ kinds tokens.now) }
+    ensures tree { IfOk result (λ file. AreOfFile (file_tree file) (kinds tokens.now)) }
     ensures fault { IfErr result (StopsThere (kinds tokens.now)) }
 {
     match file_at(alloc, tokens.len() + 1, Rest { tokens, at: 0 }) {
@@ -143,10 +142,10 @@ fn fault_up_to(alloc: Global, tokens: &[Token], place: usize) -> SyntaxFault
 }
 
 /// The tree of a file with at most 64 blocks within one another, or the fault at the least token. The
-/// tree's spelling is the tokens, so it says all that they say.
+/// tree's spelling is the tokens, so it says all that they say, and each place in it is that of its token.
 pub fn file_tree<'a>(alloc: Global, tokens: &'a [Token]) -> Result<File<'a>, SyntaxFault>
     requires { length tokens.now < 2 ^ 32 }
-    ensures tree { IfOk result (λ file. file_tokens (file_tree file) ≡ kinds tokens.now) }
+    ensures tree { IfOk result (λ file. AreOfFile (file_tree file) (kinds tokens.now)) }
     ensures file { IsReadWhere SyntaxFault.Memory result
         (IsFile (kinds tokens.now) × NoneTooDeep (kinds tokens.now)) }
     ensures syntax { (at : ℕ) → IsExactly SyntaxFault.Memory result (Err (SyntaxFault.Syntax at))

@@ -1,13 +1,13 @@
 // Forms that hold a list. They borrow the bytes of names from the tokens, so only their lists take memory.
 
 use plc_base::Items;
-use plc_syntax::{Bound, Literal};
+use plc_syntax::{Bound, Literal, Name, Placed};
 
 /// What an auxiliary field holds.
 #[derive(Drop)]
 pub enum AuxiliaryKind<'a> {
     /// One of these values, of which the first stands apart.
-    OneOf(&'a [u8], Items<&'a [u8]>),
+    OneOf(Name<'a>, Items<Name<'a>>),
     /// A thread or none.
     OfThreads,
 }
@@ -16,7 +16,7 @@ pub enum AuxiliaryKind<'a> {
 #[derive(Drop)]
 pub struct Auxiliary<'a> {
     /// How it is called.
-    pub name: &'a [u8],
+    pub name: Name<'a>,
     /// What it holds.
     pub kind: AuxiliaryKind<'a>,
 }
@@ -29,7 +29,7 @@ pub struct Clause<'a> {
     /// The first literal.
     pub first: Literal<'a>,
     /// The others in order.
-    pub others: Items<Literal<'a>>,
+    pub others: Items<Placed<Literal<'a>>>,
 }
 
 /// An item of an outline.
@@ -38,16 +38,16 @@ pub enum Item<'a> {
     /// Everywhere.
     Invariant(Clause<'a>),
     /// Over an operation, by its name.
-    Over(&'a [u8], Clause<'a>),
+    Over(Name<'a>, Clause<'a>),
     /// At labels, of which the first stands apart.
-    At(&'a [u8], Items<&'a [u8]>, Clause<'a>),
+    At(Name<'a>, Items<Name<'a>>, Clause<'a>),
 }
 
 /// An outline.
 #[derive(Drop)]
 pub struct Outline<'a> {
     /// Its depth, which may be left out.
-    pub depth: Option<u32>,
+    pub depth: Option<Placed<u32>>,
     /// Its items in order.
     pub items: Items<Item<'a>>,
 }

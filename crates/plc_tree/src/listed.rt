@@ -1,10 +1,11 @@
 // What lists are made of: with which token an item begins, and its reader.
 ghost use Rattle.std.specs.Prelude.{◌≡◌};
-ghost use Rattle.plc_syntax.specs.Trees.{Text, PrimitiveTree, InitialTree, FieldTree, FunctionTree, LiteralTree};
+ghost use Rattle.plc_syntax.specs.Trees.{Text, Placed as PlacedTree, PrimitiveTree, InitialTree, FieldTree};
+ghost use Rattle.plc_syntax.specs.Trees.{FunctionTree, LiteralTree};
 ghost use Rattle.plc_syntax.specs.Trees.{GhostTree, ItemTree, OpTree};
-ghost use Rattle.plc_syntax.specs.Views.{text_of, primitive_tree, initial_tree, field_tree, shared_name};
+ghost use Rattle.plc_syntax.specs.Views.{placed_as, name_tree, primitive_tree, initial_tree, field_tree, shared_name};
 ghost use Rattle.plc_syntax.specs.Views.{function_tree, literal_tree};
-ghost use Rattle.plc_syntax.specs.Forms.{comma_name_of, primitive_line_of, initial_of, field_of, shared_of};
+ghost use Rattle.plc_syntax.specs.Forms.{placed_of, comma_name_of, primitive_line_of, initial_of, field_of, shared_of};
 ghost use Rattle.plc_syntax.specs.Forms.{function_of, or_literal_of};
 ghost use Rattle.plc_tree.specs.Forms.{begins_comma_name, begins_primitive, begins_initial, begins_field};
 ghost use Rattle.plc_tree.specs.Forms.{begins_shared, begins_function, begins_or, begins_ghost, ghost_of};
@@ -19,15 +20,16 @@ use crate::operation::{Operation, op_at};
 use crate::outline::item_at;
 use plc_lex::{Keyword, Symbol, TokenKind};
 use plc_syntax::{
-    Declaration, Function, Initial, Literal, Primitive, Read, Rest, Shared, comma_name_at,
-    field_at, function_at, initial_at, or_literal_at, primitive_line_at, shared_at,
+    Declaration, Function, Initial, Literal, Name, Placed, Primitive, Read, Rest, Shared,
+    comma_name_at, field_at, function_at, initial_at, or_literal_at, primitive_line_at, shared_at,
+    within,
 };
 use std::alloc::Global;
 
-impl<'a> Listed<'a> for &'a [u8] {
-    ghost Tree = { Text };
+impl<'a> Listed<'a> for Name<'a> {
+    ghost Tree = { PlacedTree Text };
 
-    ghost tree = { text_of };
+    ghost tree = { name_tree };
 
     ghost starts = { begins_comma_name };
 
@@ -39,19 +41,19 @@ impl<'a> Listed<'a> for &'a [u8] {
         matches!(kind, TokenKind::Symbol(Symbol::Comma))
     }
 
-    fn read(_alloc: Global, _most: usize, rest: Rest<'a>) -> Read<'a, &'a [u8]> {
+    fn read(_alloc: Global, _most: usize, rest: Rest<'a>) -> Read<'a, Name<'a>> {
         comma_name_at(rest)
     }
 }
 
-impl<'a> Listed<'a> for Primitive<'a> {
-    ghost Tree = { PrimitiveTree };
+impl<'a> Listed<'a> for Placed<Primitive<'a>> {
+    ghost Tree = { PlacedTree PrimitiveTree };
 
-    ghost tree = { primitive_tree };
+    ghost tree = { placed_as primitive_tree };
 
     ghost starts = { begins_primitive };
 
-    ghost of = { λ m at ts. primitive_line_of at ts };
+    ghost of = { λ m at ts. placed_of primitive_line_of at ts };
 
     fn begins(kind: &TokenKind) -> bool
         ensures { result ≡ begins_primitive kind.now }
@@ -65,19 +67,19 @@ impl<'a> Listed<'a> for Primitive<'a> {
         )
     }
 
-    fn read(_alloc: Global, _most: usize, rest: Rest<'a>) -> Read<'a, Primitive<'a>> {
-        primitive_line_at(rest)
+    fn read(_alloc: Global, _most: usize, rest: Rest<'a>) -> Read<'a, Placed<Primitive<'a>>> {
+        within!(Placed { at: rest.at, value }; value = primitive_line_at(rest))
     }
 }
 
-impl<'a> Listed<'a> for Initial<'a> {
-    ghost Tree = { InitialTree };
+impl<'a> Listed<'a> for Placed<Initial<'a>> {
+    ghost Tree = { PlacedTree InitialTree };
 
-    ghost tree = { initial_tree };
+    ghost tree = { placed_as initial_tree };
 
     ghost starts = { begins_initial };
 
-    ghost of = { λ m at ts. initial_of at ts };
+    ghost of = { λ m at ts. placed_of initial_of at ts };
 
     fn begins(kind: &TokenKind) -> bool
         ensures { result ≡ begins_initial kind.now }
@@ -85,8 +87,8 @@ impl<'a> Listed<'a> for Initial<'a> {
         matches!(kind, TokenKind::Name(_) | TokenKind::Word(Keyword::Ghost))
     }
 
-    fn read(_alloc: Global, _most: usize, rest: Rest<'a>) -> Read<'a, Initial<'a>> {
-        initial_at(rest)
+    fn read(_alloc: Global, _most: usize, rest: Rest<'a>) -> Read<'a, Placed<Initial<'a>>> {
+        within!(Placed { at: rest.at, value }; value = initial_at(rest))
     }
 }
 
@@ -111,7 +113,7 @@ impl<'a> Listed<'a> for Declaration<'a> {
 }
 
 impl<'a> Listed<'a> for Shared<'a> {
-    ghost Tree = { Text };
+    ghost Tree = { PlacedTree Text };
 
     ghost tree = { shared_name };
 
@@ -150,10 +152,10 @@ impl<'a> Listed<'a> for Function<'a> {
     }
 }
 
-impl<'a> Listed<'a> for Literal<'a> {
-    ghost Tree = { LiteralTree };
+impl<'a> Listed<'a> for Placed<Literal<'a>> {
+    ghost Tree = { PlacedTree LiteralTree };
 
-    ghost tree = { literal_tree };
+    ghost tree = { placed_as literal_tree };
 
     ghost starts = { begins_or };
 
@@ -165,7 +167,7 @@ impl<'a> Listed<'a> for Literal<'a> {
         matches!(kind, TokenKind::Word(Keyword::Or))
     }
 
-    fn read(_alloc: Global, _most: usize, rest: Rest<'a>) -> Read<'a, Literal<'a>> {
+    fn read(_alloc: Global, _most: usize, rest: Rest<'a>) -> Read<'a, Placed<Literal<'a>>> {
         or_literal_at(rest)
     }
 }
@@ -213,14 +215,14 @@ impl<'a> Listed<'a> for Item<'a> {
     }
 }
 
-impl<'a> Listed<'a> for Operation<'a> {
-    ghost Tree = { OpTree };
+impl<'a> Listed<'a> for Placed<Operation<'a>> {
+    ghost Tree = { PlacedTree OpTree };
 
-    ghost tree = { operation_tree };
+    ghost tree = { placed_as operation_tree };
 
     ghost starts = { begins_op };
 
-    ghost of = { λ m at ts. op_of m at ts };
+    ghost of = { λ m at ts. placed_of (op_of m) at ts };
 
     fn begins(kind: &TokenKind) -> bool
         ensures { result ≡ begins_op kind.now }
@@ -228,7 +230,7 @@ impl<'a> Listed<'a> for Operation<'a> {
         matches!(kind, TokenKind::Word(Keyword::Op))
     }
 
-    fn read(alloc: Global, most: usize, rest: Rest<'a>) -> Read<'a, Operation<'a>> {
-        op_at(alloc, most, rest)
+    fn read(alloc: Global, most: usize, rest: Rest<'a>) -> Read<'a, Placed<Operation<'a>>> {
+        within!(Placed { at: rest.at, value }; value = op_at(alloc, most, rest))
     }
 }

@@ -10,7 +10,7 @@ use crate::tree::Block;
 use plc_base::Items;
 use plc_lex::{Keyword, Symbol};
 use plc_syntax::{
-    Declaration, Front, Read, Rest, at_front, in_turn, name_and_at, stuck, symbol_at, within,
+    Declaration, Front, Name, Read, Rest, at_front, in_turn, name_and_at, stuck, symbol_at, within,
 };
 use std::alloc::Global;
 
@@ -20,14 +20,14 @@ pub enum Parameters<'a> {
     /// None.
     None,
     /// The first, and the others.
-    Some(&'a [u8], Items<&'a [u8]>),
+    Some(Name<'a>, Items<Name<'a>>),
 }
 
 /// An operation.
 #[derive(Drop)]
 pub struct Operation<'a> {
     /// How it is called.
-    pub name: &'a [u8],
+    pub name: Name<'a>,
     /// Its parameters.
     pub parameters: Parameters<'a>,
     /// What it declares before its statements.

@@ -1,7 +1,6 @@
 // Items, and the outline.
-ghost use Rattle.std.specs.Prelude.{◌≡◌, ◌<◌, ◌^◌, length, IfOk, IfErr};
-ghost use Rattle.plc_syntax.specs.Syntax.{kinds};
-ghost use Rattle.plc_syntax.specs.Trees.{outline_then};
+ghost use Rattle.std.specs.Prelude.{◌≡◌, ◌+◌, length, IfOk, IfErr};
+ghost use Rattle.plc_syntax.specs.Syntax.{kinds, AreOfOutline};
 ghost use Rattle.plc_syntax.specs.Answers.{Gives};
 ghost use Rattle.plc_tree.specs.Forms.{over_of, at_of, item_of, outline_tail_of, outline_of, outlined_of};
 ghost use Rattle.plc_tree.specs.FormViews.{item_tree, outline_tree, outlined_tree};
@@ -10,10 +9,10 @@ ghost use Rattle.plc_tree.specs.Whole.{OutlineStops};
 use crate::clause::clause_at;
 use crate::form::{Item, Outline};
 use crate::list::ended_list_at;
-use plc_lex::{Keyword, Symbol, Token};
+use plc_lex::{Keyword, Symbol};
 use plc_syntax::{
-    Fault, Front, Read, Rest, at_front, depth_at, in_turn, name_and_at, name_at, stuck, symbol_at,
-    within, word_at,
+    Front, Read, Rest, at_front, depth_at, in_turn, name_and_at, name_at, stuck, symbol_at, within,
+    word_at,
 };
 use std::alloc::Global;
 
@@ -72,21 +71,17 @@ fn outline_at<'a>(alloc: Global, most: usize, rest: Rest<'a>) -> Read<'a, Outlin
     in_turn!(after = word_at(rest, Keyword::Outline); outline_tail_at(alloc, most, after))
 }
 
-/// The outline at the front of tokens, and the tokens after its closing brace, whatever they are. Where
+/// The outline at the front of tokens, and what stands after its closing brace, whatever it is. Where
 /// none stands there the fault is `Syntax`, at the least token with which none begins any more, or
 /// after the last one where the tokens begin an outline.
-pub fn outline_tree<'a>(
-    alloc: Global,
-    tokens: &'a [Token],
-) -> Result<(Outline<'a>, &'a [Token]), Fault>
-    requires { length tokens.now < 2 ^ 32 }
-    ensures tree { IfOk result (λ r. kinds tokens.now ≡ outline_then (outline_tree r.0) (kinds r.1.now)) }
-    ensures fault { IfErr result (OutlineStops (kinds tokens.now)) }
+pub fn outline_tree<'a>(alloc: Global, start: Rest<'a>) -> Read<'a, Outline<'a>>
+    ensures tree { IfOk result (λ r. AreOfOutline (outline_tree r.0) start.entry.at (kinds start.entry.tokens.now)
+        (kinds r.1.tokens.now)) }
+    ensures after { IfOk result
+        (λ r. r.1.at + length r.1.tokens.now ≡ start.entry.at + length start.entry.tokens.now) }
+    ensures fault { IfErr result (OutlineStops start.entry.at (kinds start.entry.tokens.now)) }
 {
-    match outline_at(alloc, tokens.len() + 1, Rest { tokens, at: 0 }) {
-        Ok((outline, rest)) => Ok((outline, rest.tokens)),
-        Err(fault) => Err(fault),
-    }
+    outline_at(alloc, start.tokens.len() + 1, start)
 }
 
 /// An outline, which may be left out.

@@ -1,6 +1,6 @@
 // Statements that hold no blocks of statements, and the condition of an `if`.
 ghost use Rattle.plc_syntax.specs.Syntax.{kinds};
-ghost use Rattle.plc_syntax.specs.Views.{condition_tree};
+ghost use Rattle.plc_syntax.specs.Views.{name_tree, condition_tree};
 ghost use Rattle.plc_syntax.specs.Answers.{Gives};
 ghost use Rattle.plc_tree.specs.Forms.{call_of, named_statement_of, atomic_of, ended_of, label_of, guard_of, step_of};
 ghost use Rattle.plc_tree.specs.Views.{statement_tree};
@@ -9,14 +9,14 @@ use crate::list::braced_list_at;
 use crate::tree::Stmt;
 use plc_lex::Symbol;
 use plc_syntax::{
-    Condition, Front, Read, Rest, argument_at, at_front, condition_at, during_at, in_turn,
+    Condition, Front, Name, Read, Rest, argument_at, at_front, condition_at, during_at, in_turn,
     name_and_at, named_tail_at, primitive_line_at, symbol_at, within,
 };
 use std::alloc::Global;
 
 /// A call, from after its opening parenthesis.
-fn call_at<'a>(name: &'a [u8], rest: Rest<'a>) -> Read<'a, Stmt<'a>>
-    ensures { Gives statement_tree result (call_of name.now rest.entry.at (kinds rest.entry.tokens.now)) }
+fn call_at<'a>(name: Name<'a>, rest: Rest<'a>) -> Read<'a, Stmt<'a>>
+    ensures { Gives statement_tree result (call_of (name_tree name.entry) rest.entry.at (kinds rest.entry.tokens.now)) }
 {
     in_turn!(
         (argument, after) = argument_at(rest);
@@ -26,9 +26,9 @@ fn call_at<'a>(name: &'a [u8], rest: Rest<'a>) -> Read<'a, Stmt<'a>>
 }
 
 /// A call or a primitive, from after the name with which it begins.
-pub fn named_statement_at<'a>(name: &'a [u8], rest: Rest<'a>) -> Read<'a, Stmt<'a>>
+pub fn named_statement_at<'a>(name: Name<'a>, rest: Rest<'a>) -> Read<'a, Stmt<'a>>
     ensures { Gives statement_tree result
-        (named_statement_of name.now rest.entry.at (kinds rest.entry.tokens.now)) }
+        (named_statement_of (name_tree name.entry) rest.entry.at (kinds rest.entry.tokens.now)) }
 {
     match at_front(rest) {
         (Front::Symbol(Symbol::OpenParen), after) => call_at(name, after),

@@ -4,7 +4,7 @@ ghost use Rattle.std.specs.Prelude.{◌≡◌};
 ghost use Rattle.plc_tree.specs.Views.{block_tree};
 
 use plc_base::Items;
-use plc_syntax::{Argument, Condition, Primitive};
+use plc_syntax::{Argument, Condition, Name, Placed, Primitive};
 use std::marker::Model;
 
 /// A statement.
@@ -14,15 +14,15 @@ pub enum Stmt<'a> {
     /// A primitive.
     Primitive(Primitive<'a>),
     /// Primitives in one step.
-    Atomic(Items<Primitive<'a>>),
+    Atomic(Items<Placed<Primitive<'a>>>),
     /// A call of a function of the reclaimer, with the label between it and its return.
     Call {
         /// The function.
-        name: &'a [u8],
+        name: Name<'a>,
         /// What it is called with.
         argument: Argument<'a>,
         /// The label.
-        during: Option<&'a [u8]>,
+        during: Option<Name<'a>>,
     },
     /// Either of two blocks, of which the second may be left out.
     If {
@@ -43,14 +43,14 @@ pub enum Stmt<'a> {
     /// The end of the operation.
     Return,
     /// A label of the point where it stands.
-    Label(&'a [u8]),
+    Label(Name<'a>),
 }
 
 /// Statements in order.
 #[cycle(tree)]
 #[derive(Drop)]
 pub struct Block<'a> {
-    stmts: Vec<Stmt<'a>>,
+    stmts: Vec<Placed<Stmt<'a>>>,
 }
 
 impl<'a> Model for Block<'a> {
@@ -77,14 +77,14 @@ impl<'a> Model for Block<'a> {
 
 impl<'a> Block<'a> {
     /// The block of these statements. It takes no memory.
-    pub fn new(stmts: Vec<Stmt<'a>>) -> Block<'a>
+    pub fn new(stmts: Vec<Placed<Stmt<'a>>>) -> Block<'a>
         ensures { result ≡ block_tree stmts.entry.items }
     {
         Block { stmts }
     }
 
     /// The statements in order.
-    pub fn stmts(&self) -> &[Stmt<'a>]
+    pub fn stmts(&self) -> &[Placed<Stmt<'a>>]
         ensures { block_tree result.now ≡ self.now }
     {
         &self.stmts

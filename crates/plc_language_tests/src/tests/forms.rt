@@ -5,7 +5,7 @@ ghost use Rattle.std.specs.Prelude.{◌<◌, ◌^◌, length};
 use crate::tests::tables::{Answers, assert_answer, assert_lines};
 use crate::tests::texts::{ForTokens, Lexed, fate, number, push_came, push_repeated};
 use plc_lex::Token;
-use plc_syntax::Fault;
+use plc_syntax::{Fault, Rest};
 use plc_tree::{SyntaxFault, file_tree, outline_tree};
 use std::alloc::{AllocError, Global};
 
@@ -47,8 +47,8 @@ fn file_fate(alloc: Global, all: &[Token]) -> Result<(), SyntaxFault>
 fn push_outline(alloc: Global, answer: &mut String, all: &[Token]) -> Result<(), AllocError>
     requires { length all.now < 2 ^ 32 }
 {
-    match outline_tree(alloc, all) {
-        Ok((_outline, rest)) => write!(answer, "{} left", rest.len()),
+    match outline_tree(alloc, Rest { tokens: all, at: 0 }) {
+        Ok((_outline, rest)) => write!(answer, "{} left", rest.tokens.len()),
         Err(Fault::Syntax { at }) => write!(answer, "syntax {at}"),
         Err(Fault::Memory) => write!(answer, "memory"),
     }

@@ -1,10 +1,10 @@
 use Rattle.std.proofs.Common.{◌≡◌, ◌∙◌, ◌+◌, ◌<◌, ◌∷◌, [], ℕ, drop, length, Ok, refl, ap, arith}
 use Rattle.std.proofs.lemmas.List.{length-append}
 use Rattle.std.proofs.lemmas.Result.{err_from_is_err_and}
-use Rattle.plc_syntax.specs.Views.{text_of}
+use Rattle.plc_syntax.specs.Views.{name_tree}
 use Rattle.plc_scope.specs.Scope.{◌>>=◌}
 use Rattle.plc_scope.proofs.Sequence.{bind_stops}
-use Rattle.plc_scope.proofs.Turns.{ahead, makes, makes_none, made, count_turn, count_end}
+use Rattle.plc_scope.proofs.Turns.{ahead, makes, makes_none, made}
 use Rattle.plc_parse.specs.Views.{values_with}
 use Rattle.plc_parse.proofs.Growth.{lists_then}
 use Rattle.plc_parse.proofs.Loops.{one_declared, all_declared, values_from, one_value, values_go, one_more, all_of}
@@ -15,9 +15,9 @@ unfolding values_with
 returns-in_err-number-clause-read c =
     let l = c.loop-name in
     let p = err_from_is_err_and c.from_residual-in_err-number.result c.from_residual-in_err-number.ensures.1 in
-    rw (p.1, p.2) (makes_none (values_from c.args.owner text_of) (one_value c.args.owner text_of) one_declared all_declared
-    (values_go c.args.owner text_of) (l.scope, length l.values, l.at) c.args.others.now l.name-index _ _ l.values
-    _ _ refl c.loop-name-test.true (bind_stops _ _ (λ f. Ok (f.0, (f.1, length l.values + 1, l.at + 2)))
+    rw (p.1, p.2) (makes_none (values_from c.args.owner name_tree) (one_value c.args.owner name_tree) one_declared
+    all_declared (values_go c.args.owner name_tree) (l.scope, length l.values) c.args.others.now l.name-index _ _ l.values
+    _ _ refl c.loop-name-test.true (bind_stops _ _ (λ f. Ok (f.0, (f.1, length l.values + 1)))
     (rw c.len.ensures at c.in_err-number.ensures.read)) l.invariant.read)
 
 pub loop-name-preserved : goal.loop-name-preserved
@@ -27,22 +27,20 @@ loop-name-preserved c =
     let count : length c.push-in-loop-name.new.self ≡ length l.values + 1 =
     ap length pushed ∙ length-append l.values (c.in_ok-number.number ∷ []) in
     let less : length l.values < 16 = omega (arith, c.in_ok-number.ensures.limit, c.len.ensures) in
-    let left = count_turn text_of c.args.others.now l.name-index c.loop-name-test.true in
     record {
       one = omega arith;
       count = omega arith;
       names = omega (arith, l.invariant.names, c.in_ok-number.ensures.declares.names.names);
       limit = c.in_ok-number.ensures.declares.names.limit ∙ l.invariant.limit;
       lists = lists_then _ _ _ l.invariant.lists c.in_ok-number.ensures.declares.lists;
-      place = omega (arith, left, l.invariant.place);
-      read = ap (λ (n : ℕ). ahead (values_from c.args.owner text_of) (one_value c.args.owner text_of) one_declared all_declared
-          (values_go c.args.owner text_of) c.push-in-loop-name.new.self (values_from c.args.owner text_of
-          (c.declare_value.new.scope, n, l.at + 2) (drop (l.name-index + 1) c.args.others.now))) count
-          ∙ makes (values_from c.args.owner text_of) (one_value c.args.owner text_of) one_declared all_declared
-          (values_go c.args.owner text_of) (l.scope, length l.values, l.at) _ c.args.others.now l.name-index _ _ l.values
+      read = ap (λ (n : ℕ). ahead (values_from c.args.owner name_tree) (one_value c.args.owner name_tree) one_declared
+          all_declared (values_go c.args.owner name_tree) c.push-in-loop-name.new.self (values_from c.args.owner name_tree
+          (c.declare_value.new.scope, n) (drop (l.name-index + 1) c.args.others.now))) count
+          ∙ makes (values_from c.args.owner name_tree) (one_value c.args.owner name_tree) one_declared all_declared
+          (values_go c.args.owner name_tree) (l.scope, length l.values) _ c.args.others.now l.name-index _ _ l.values
           c.push-in-loop-name.new.self c.in_ok-number.number refl c.loop-name-test.true
           (λ o. one_more l.values c.push-in-loop-name.new.self c.in_ok-number.number pushed o)
-          (ap (λ r. r >>= λ f. Ok (f.0, (f.1, length l.values + 1, l.at + 2)))
+          (ap (λ r. r >>= λ f. Ok (f.0, (f.1, length l.values + 1)))
           (rw c.len.ensures at c.in_ok-number.ensures.read))
           ∙ l.invariant.read;
     }
@@ -51,25 +49,7 @@ pub returns-clause-read : goal.returns-clause-read
 unfolding values_with
 returns-clause-read c =
     let l = c.loop-name in
-    made (values_from c.args.owner text_of) (one_value c.args.owner text_of) one_declared all_declared
-    (values_go c.args.owner text_of) (l.scope, length l.values, l.at) c.args.others.now l.name-index l.values _ c.loop-name-test.false
-    l.invariant.read
-    ∙ ap (λ o. Ok o) (all_of l.values l.scope l.at)
-
-pub overflow_add-at : goal.overflow_add-at
-overflow_add-at c =
-    let l = c.loop-name in
-    let left = count_turn text_of c.args.others.now l.name-index c.loop-name-test.true in
-    omega (arith, left, l.invariant.place, c.requires.place)
-
-pub overflow_add-at-in-loop-name : goal.overflow_add-at-in-loop-name
-overflow_add-at-in-loop-name c =
-    let l = c.loop-name in
-    let left = count_turn text_of c.args.others.now l.name-index c.loop-name-test.true in
-    omega (arith, left, l.invariant.place, c.requires.place)
-
-pub returns-clause-place : goal.returns-clause-place
-returns-clause-place c =
-    let l = c.loop-name in
-    let none = count_end text_of c.args.others.now l.name-index c.loop-name-test.false in
-    omega (arith, none, l.invariant.place)
+    made (values_from c.args.owner name_tree) (one_value c.args.owner name_tree) one_declared all_declared
+    (values_go c.args.owner name_tree) (l.scope, length l.values) c.args.others.now l.name-index l.values _
+    c.loop-name-test.false l.invariant.read
+    ∙ ap (λ o. Ok o) (all_of l.values l.scope)

@@ -2,17 +2,17 @@ use Rattle.std.proofs.Common.{◌∙◌, ◌+◌, ℕ, List, Ok, sym, ap, arith}
 use Rattle.std.proofs.lemmas.Result.{err_from_is_err_and}
 use Rattle.plc_lang.specs.declared.syntax.Line.{Line}
 use Rattle.plc_lang.specs.Statements.{Statements, Blocks, Then}
-use Rattle.std.proofs.Math.ListN.{drop_of_length-le}
 use Rattle.plc_parse.specs.Meaning.{line_at, statements_mean}
 use Rattle.plc_parse.specs.Views.{choices_mean}
 use Rattle.plc_lang.specs.Views.{statement_of}
 use Rattle.plc_syntax.specs.Trees.{BlockTree}
+use Rattle.plc_syntax.specs.declared.form.Placed.{Placed}
 use Rattle.plc_tree.specs.declared.tree.Stmt.{Stmt}
+use Rattle.plc_tree.specs.Postorder.{block_size, ors_size}
 use Rattle.plc_tree.specs.Views.{block_tree, ors_tree}
 use Rattle.plc_scope.specs.Scope.{◌>>=◌}
 use Rattle.plc_scope.proofs.Sequence.{bind_stops, fails_along}
 use Rattle.plc_scope.proofs.Turns.{left_at, makes, makes_none, made}
-use Rattle.plc_parse.specs.Sizes.{statements_size, ors_size}
 use Rattle.plc_parse.specs.Units.{lines_of}
 use Rattle.plc_parse.proofs.Growth.{labels_then, can_still_label}
 use Rattle.plc_parse.proofs.Loops.{lines_before, one_line_more, all_lines, line_made, lines_made, statements_from, one_statement}
@@ -20,44 +20,39 @@ use Rattle.plc_parse.proofs.Loops.{statements_go, blocks_before, one_block_more,
 use Rattle.plc_parse.proofs.Loops.{one_block, ors_go}
 use Rattle.plc_parse.proofs.block.+block.Goals as goal
 
-pub statements-loop-stmt-preserved : goal.statements-loop-stmt-preserved
-statements-loop-stmt-preserved t c =
-    let l = c.loop-stmt in
+pub statements-loop-form-preserved : goal.statements-loop-form-preserved
+statements-loop-form-preserved t c =
+    let l = c.loop-form in
     let lines = lines_of c.args.context.tokens.now in
     let in_loop = c.args.context.in_loop in
     let line : Line = record { line = c.line_at-line.result; stmt = c.in_ok-stmt.stmt } in
-    let left = ap (λ (ss : List Stmt). statements_size (block_tree ss)) (left_at c.stmts-stmt-items.result.now
-    l.stmt-index c.stmt-item.result _ c.stmt-item.is c.loop-stmt-test.true) in
+    let left = ap (λ (ss : List (Placed Stmt)). block_size (block_tree ss)) (left_at c.stmts-form-items.result.now
+    l.form-index c.form-item.result _ c.form-item.is c.loop-form-test.true) in
     record {
       room = can_still_label _ _ l.invariant.room c.in_ok-stmt.ensures.labels;
       grows = labels_then _ _ _ l.invariant.grows c.in_ok-stmt.ensures.labels;
-      after = omega (arith, l.invariant.after, c.in_ok-stmt.ensures.place);
-      place = omega (arith, left, l.invariant.place, c.in_ok-stmt.ensures.place);
+      left = omega (arith, left, l.invariant.left);
       read = makes (statements_from lines in_loop) (one_statement lines in_loop) line_made lines_made
-          (statements_go lines in_loop) (l.scope, l.at) _ c.stmts-stmt-items.result.now l.stmt-index c.stmt-item.result _
-          l.lines.items _ _ c.stmt-item.is c.loop-stmt-test.true
-          (λ o. ap (λ (b : Statements). (b, o.1, o.2)) (ap (λ (ls : List Line). lines_before ls o.0) c.in_ok-push.ensures.items
+          (statements_go lines in_loop) l.scope _ c.stmts-form-items.result.now l.form-index c.form-item.result _
+          l.lines.items _ _ c.form-item.is c.loop-form-test.true
+          (λ o. ap (λ (b : Statements). (b, o.1)) (ap (λ (ls : List Line). lines_before ls o.0) c.in_ok-push.ensures.items
           ∙ one_line_more l.lines.items line o.0
           ∙ ap (λ (n : ℕ). lines_before l.lines.items (Then n (statement_of c.in_ok-stmt.stmt) o.0)) c.line_at-line.ensures))
-          (ap (λ r. r >>= λ f. Ok ((line_at lines l.at, f.0), (f.1, f.2))) c.in_ok-stmt.ensures.read)
+          (ap (λ r. r >>= λ f. Ok ((line_at lines c.form-item.result.at, f.0), f.1)) c.in_ok-stmt.ensures.read)
           ∙ l.invariant.read;
     }
 
 pub statements-returns : goal.statements-returns
 statements-returns t c =
-    let l = c.loop-stmt in
+    let l = c.loop-form in
     let lines = lines_of c.args.context.tokens.now in
     let in_loop = c.args.context.in_loop in
-    let none = ap (λ (ss : List Stmt). statements_size (block_tree ss)) (drop_of_length-le c.stmts-stmt-items.result.now
-    c.loop-stmt-test.false) in
-    let whole = ap statements_size c.stmts-stmt-items.ensures in
     record {
-      read = ap (λ (b : BlockTree). statements_mean lines c.args.scope.now in_loop c.args.start b) (sym c.stmts-stmt-items.ensures)
+      read = ap (λ (b : BlockTree). statements_mean lines c.args.scope.now in_loop b) (sym c.stmts-form-items.ensures)
           ∙ made (statements_from lines in_loop) (one_statement lines in_loop) line_made lines_made (statements_go lines in_loop)
-          (l.scope, l.at) c.stmts-stmt-items.result.now l.stmt-index l.lines.items _ c.loop-stmt-test.false l.invariant.read
-          ∙ ap (λ (b : Statements). Ok (b, l.scope, l.at)) (all_lines l.lines.items ∙ sym c.new.ensures);
+          l.scope c.stmts-form-items.result.now l.form-index l.lines.items _ c.loop-form-test.false l.invariant.read
+          ∙ ap (λ (b : Statements). Ok (b, l.scope)) (all_lines l.lines.items ∙ sym c.new.ensures);
       labels = l.invariant.grows;
-      place = omega (arith, none, whole, l.invariant.place);
     }
 
 pub choices-returns-in_err-block : goal.choices-returns-in_err-block
@@ -69,10 +64,9 @@ choices-returns-in_err-block t c =
     let p = err_from_is_err_and c.from_residual-in_err-block.result c.from_residual-in_err-block.ensures.1 in
     rw (p.1, p.2) (record {
       labels = tt;
-      place = tt;
-      read = makes_none (ors_from lines in_loop) (one_block lines in_loop) block_made blocks_made (ors_go lines in_loop) (l.scope, l.at) c.args.others.now l.block-index c.block-item.result _ l.choices.items _ _
-          c.block-item.is c.loop-block-test.true (bind_stops _ _ (λ x. Ok (x.0, (x.1, x.2 + 1))) c.in_err-block.ensures.read)
-          l.invariant.read;
+      read = makes_none (ors_from lines in_loop) (one_block lines in_loop) block_made blocks_made (ors_go lines in_loop)
+          l.scope c.args.others.now l.block-index c.block-item.result _ l.choices.items _ _ c.block-item.is
+          c.loop-block-test.true c.in_err-block.ensures.read l.invariant.read;
     })
 
 pub choices-loop-block-preserved : goal.choices-loop-block-preserved
@@ -85,13 +79,12 @@ choices-loop-block-preserved t c =
     record {
       room = can_still_label _ _ l.invariant.room c.in_ok-block.ensures.labels;
       grows = labels_then _ _ _ l.invariant.grows c.in_ok-block.ensures.labels;
-      after = omega (arith, l.invariant.after, c.in_ok-block.ensures.place);
-      place = omega (arith, left, l.invariant.place, c.in_ok-block.ensures.place);
-      read = makes (ors_from lines in_loop) (one_block lines in_loop) block_made blocks_made (ors_go lines in_loop) (l.scope, l.at) _ c.args.others.now l.block-index c.block-item.result _ l.choices.items _ _
-          c.block-item.is c.loop-block-test.true
-          (λ o. ap (λ (b : Blocks). (b, o.1, o.2)) (ap (λ (bs : List Statements). blocks_before bs o.0) c.in_ok-push-3.ensures.items
+      left = omega (arith, left, l.invariant.left);
+      read = makes (ors_from lines in_loop) (one_block lines in_loop) block_made blocks_made (ors_go lines in_loop) l.scope _
+          c.args.others.now l.block-index c.block-item.result _ l.choices.items _ _ c.block-item.is c.loop-block-test.true
+          (λ o. ap (λ (b : Blocks). (b, o.1)) (ap (λ (bs : List Statements). blocks_before bs o.0) c.in_ok-push-3.ensures.items
           ∙ one_block_more l.choices.items c.in_ok-block.block o.0))
-          (ap (λ r. r >>= λ x. Ok (x.0, (x.1, x.2 + 1))) c.in_ok-block.ensures.read)
+          c.in_ok-block.ensures.read
           ∙ l.invariant.read;
     }
 
@@ -101,83 +94,61 @@ choices-returns t c =
     let l = c.loop-block in
     let lines = lines_of c.args.context.tokens.now in
     let in_loop = c.args.context.in_loop in
-    let none = ap (λ (bs : List BlockTree). ors_size (ors_tree bs)) (drop_of_length-le c.args.others.now
-    c.loop-block-test.false) in
     record {
-      read = made (ors_from lines in_loop) (one_block lines in_loop) block_made blocks_made (ors_go lines in_loop) (l.scope, l.at) c.args.others.now l.block-index l.choices.items _ c.loop-block-test.false
-          l.invariant.read
-          ∙ ap (λ (b : Blocks). Ok (b, l.scope, l.at)) (all_blocks l.choices.items);
+      read = made (ors_from lines in_loop) (one_block lines in_loop) block_made blocks_made (ors_go lines in_loop) l.scope
+          c.args.others.now l.block-index l.choices.items _ c.loop-block-test.false l.invariant.read
+          ∙ ap (λ (b : Blocks). Ok (b, l.scope)) (all_blocks l.choices.items);
       labels = l.invariant.grows;
-      place = omega (arith, none, l.invariant.place);
     }
 
 pub statement-returns-in-Primitive : goal.statement-returns-in-Primitive
 statement-returns-in-Primitive t c = rw c.in-Primitive.is
-    (c.primitive_statement.ensures (lines_of c.args.context.tokens.now) c.args.context.in_loop)
+    (c.primitive_statement.ensures (lines_of c.args.context.tokens.now) c.args.context.in_loop c.args.at)
 
 pub statement-returns-in-Atomic : goal.statement-returns-in-Atomic
 statement-returns-in-Atomic t c = rw (c.in-Atomic.is, ← c.as_slice.ensures)
-    (c.atomic.ensures (lines_of c.args.context.tokens.now) c.args.context.in_loop)
+    (c.atomic.ensures (lines_of c.args.context.tokens.now) c.args.context.in_loop c.args.at)
 
 pub statement-returns-in-Call : goal.statement-returns-in-Call
 statement-returns-in-Call t c = rw c.in-Call.is
-    (c.call_statement.ensures (lines_of c.args.context.tokens.now) c.args.context.in_loop)
+    (c.call_statement.ensures (lines_of c.args.context.tokens.now) c.args.context.in_loop c.args.at)
 
 pub statement-returns-in-Break : goal.statement-returns-in-Break
 statement-returns-in-Break t c = rw c.in-Break.is
-    (c.break_statement.ensures (lines_of c.args.context.tokens.now) c.args.scope.now c.requires.room)
+    (c.break_statement.ensures (lines_of c.args.context.tokens.now) c.args.scope.now c.requires)
 
 pub statement-returns-in-Label : goal.statement-returns-in-Label
 statement-returns-in-Label t c = rw c.in-Label.is
-    (c.label.ensures (lines_of c.args.context.tokens.now) c.args.context.in_loop)
+    (c.label.ensures (lines_of c.args.context.tokens.now) c.args.context.in_loop c.args.at)
 
 pub statements-statement-requires : goal.statements-statement-requires
 statements-statement-requires t c =
-    let l = c.loop-stmt in
-    let left = ap (λ (ss : List Stmt). statements_size (block_tree ss)) (left_at c.stmts-stmt-items.result.now
-    l.stmt-index c.stmt-item.result _ c.stmt-item.is c.loop-stmt-test.true) in
-    let whole = ap statements_size c.stmts-stmt-items.ensures in (
-      omega (arith, left, whole, l.invariant.after, l.invariant.place, c.decreases),
-      record { room = l.invariant.room; place = omega (arith, left, whole, l.invariant.place, c.requires.place) },
-    )
+    let l = c.loop-form in
+    let left = ap (λ (ss : List (Placed Stmt)). block_size (block_tree ss)) (left_at c.stmts-form-items.result.now
+    l.form-index c.form-item.result _ c.form-item.is c.loop-form-test.true) in
+    let whole = ap block_size c.stmts-form-items.ensures in
+    (omega (arith, left, whole, l.invariant.left, c.decreases), l.invariant.room)
 
 pub statements-returns-in_err-stmt : goal.statements-returns-in_err-stmt
 statements-returns-in_err-stmt t c =
-    let l = c.loop-stmt in
+    let l = c.loop-form in
     let lines = lines_of c.args.context.tokens.now in
     let in_loop = c.args.context.in_loop in
     let p = err_from_is_err_and c.from_residual.result c.from_residual.ensures.1 in
     rw (p.1, p.2) (record {
       labels = tt;
-      place = tt;
-      read = fails_along _ _ _ (ap (λ (b : BlockTree). statements_mean lines c.args.scope.now in_loop c.args.start b)
-          c.stmts-stmt-items.ensures)
+      read = fails_along _ _ _ (ap (λ (b : BlockTree). statements_mean lines c.args.scope.now in_loop b)
+          c.stmts-form-items.ensures)
           (makes_none (statements_from lines in_loop) (one_statement lines in_loop) line_made lines_made
-          (statements_go lines in_loop) (l.scope, l.at) c.stmts-stmt-items.result.now l.stmt-index c.stmt-item.result _
-          l.lines.items _ _ c.stmt-item.is c.loop-stmt-test.true
-          (bind_stops _ _ (λ f. Ok ((line_at lines l.at, f.0), (f.1, f.2))) c.in_err-stmt.ensures.read)
+          (statements_go lines in_loop) l.scope c.stmts-form-items.result.now l.form-index c.form-item.result _
+          l.lines.items _ _ c.form-item.is c.loop-form-test.true
+          (bind_stops _ _ (λ f. Ok ((line_at lines c.form-item.result.at, f.0), f.1)) c.in_err-stmt.ensures.read)
           l.invariant.read);
     })
-
-pub choices-overflow_add-at : goal.choices-overflow_add-at
-choices-overflow_add-at t c =
-    let l = c.loop-block in
-    let left = ap (λ (bs : List BlockTree). ors_size (ors_tree bs)) (left_at c.args.others.now l.block-index
-    c.block-item.result _ c.block-item.is c.loop-block-test.true) in
-    omega (arith, left, l.invariant.place, c.requires.place)
 
 pub choices-statements-requires : goal.choices-statements-requires
 choices-statements-requires t c =
     let l = c.loop-block in
     let left = ap (λ (bs : List BlockTree). ors_size (ors_tree bs)) (left_at c.args.others.now l.block-index
-    c.block-item.result _ c.block-item.is c.loop-block-test.true) in (
-      omega (arith, left, l.invariant.after, l.invariant.place, c.decreases),
-      record { room = l.invariant.room; place = omega (arith, left, l.invariant.place, c.requires.place) },
-    )
-
-pub choices-overflow_add-at-in-loop-block : goal.choices-overflow_add-at-in-loop-block
-choices-overflow_add-at-in-loop-block t c =
-    let l = c.loop-block in
-    let left = ap (λ (bs : List BlockTree). ors_size (ors_tree bs)) (left_at c.args.others.now l.block-index
     c.block-item.result _ c.block-item.is c.loop-block-test.true) in
-    omega (arith, left, l.invariant.place, c.in_ok-block.ensures.place, c.requires.place)
+    (omega (arith, left, l.invariant.left, c.decreases), l.invariant.room)

@@ -1,5 +1,4 @@
-use Rattle.std.proofs.Common.{◌≡◌, ◌+◌, ◌*◌, ◌≤◌, drop, length, map}
-use Rattle.std.specs.List.{sum_by}
+use Rattle.std.proofs.Common.{◌≡◌, ◌*◌, ◌≤◌, drop, length}
 use Rattle.plc_scope.proofs.Turns.{ahead}
 use Rattle.plc_parse.specs.Growth.{AddsNames}
 use Rattle.plc_parse.proofs.Loops.{one_declared, all_declared, listed_from, one_listed, listed_go}
@@ -9,9 +8,8 @@ abbrev pub invariant-loop-form : goal.invariant-loop-form
 invariant-loop-form g l = let k = g.L.Listed.kind in record {
   count : length l.items ≤ k.limit;
   grows : AddsNames l.fn.scope l.scope (k.names * length l.items);
-  place : l.at + sum_by k.size (map k.tree (drop l.form-index l.forms)) ≡ l.fn.start + sum_by k.size (map k.tree l.fn.forms);
   read : ahead (listed_from k.means k.tree) (one_listed k.means k.tree) one_declared all_declared
       (listed_go k.means k.tree) l.items
-      (listed_from k.means k.tree (l.scope, length l.items, l.at) (drop l.form-index l.forms))
-      ≡ listed_from k.means k.tree (l.fn.scope, 0, l.fn.start) l.fn.forms;
+      (listed_from k.means k.tree (l.scope, length l.items) (drop l.form-index l.forms))
+      ≡ listed_from k.means k.tree (l.fn.scope, 0) l.fn.forms;
 }

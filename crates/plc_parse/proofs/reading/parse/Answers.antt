@@ -1,20 +1,11 @@
-use Rattle.std.proofs.Common.{◌≡◌, ◌∙◌, Err, length, ap, refl, arith}
+use Rattle.std.proofs.Common.{◌≡◌, ◌∙◌, Err, ap, refl}
 use Rattle.plc_tree.specs.declared.fault.SyntaxFault.TheVariants as syntax
 use Rattle.plc_tree.specs.FileViews.{file_tree}
-use Rattle.plc_tree.proofs.Nested.{kinds_length}
 use Rattle.plc_scope.specs.declared.fault.ParseFault.TheVariants as faults
 use Rattle.plc_parse.specs.Units.{no_file, too_deep}
 use Rattle.plc_parse.proofs.Answering.{unit_is, fault_is, no_other_fault, fits_of, named_of, sorted_of, observer_of}
 use Rattle.plc_parse.proofs.Answering.{outline_of}
-use Rattle.plc_parse.proofs.Lengths.{file_long}
 use Rattle.plc_parse.proofs.reading.parse.Goals as goal
-
-pub file_unit-requires : goal.file_unit-requires
-file_unit-requires c =
-    let long = file_long (file_tree c.in-Ok.form) in
-    let same = ap length c.in-Ok.ensures.tree in
-    let kinds = kinds_length c.args.tokens.now in
-    omega (arith, long, same, kinds, c.requires)
 
 pub returns-in-Ok : goal.returns-in-Ok
 returns-in-Ok c =

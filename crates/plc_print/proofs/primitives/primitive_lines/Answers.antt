@@ -1,15 +1,16 @@
-use Rattle.std.proofs.Common.{[], List, map, refl}
+use Rattle.std.proofs.Common.{[], List, get_or, map, refl}
 use Rattle.plc_lang.specs.declared.syntax.Var.TheVariants as vars
 use Rattle.plc_lang.specs.declared.syntax.Primitive.{Primitive}
 use Rattle.plc_lang.specs.declared.syntax.Primitive.TheVariants as prims
-use Rattle.plc_syntax.specs.Trees.{each_then, primitive_line_then}
+use Rattle.plc_syntax.specs.Trees.{placed_then, each_then, primitive_line_then}
 use Rattle.plc_print.specs.Canonical.{primitive_tree}
-use Rattle.plc_print.proofs.Parts.{copy_printed, line_leads}
+use Rattle.plc_print.proofs.Parts.{placed_leads, printed_at, copy_printed, line_leads}
 use Rattle.plc_print.proofs.primitives.primitive_lines.Goals as goal
+use Rattle.plc_print.specs.Outlines.{bare}
 
 pub loop-prim-preserved : goal.loop-prim-preserved
 loop-prim-preserved c =
     let tree = primitive_tree c.args.reach.file.now c.args.reach.locals.now in
-    let tokens = λ (ks : List Primitive). each_then primitive_line_then (map tree ks) [] in
-    copy_printed (λ (k : Primitive). primitive_line_then (tree k)) (λ k. line_leads (tree k)) tokens (λ k others. refl) c.args.prims.now c.loop-prim.prim-index (prims.Null (vars.Shared 0)) c.loop-prim-test.true
-    c.loop-prim.out.text.items c.loop-prim.invariant c.in_ok-primitive_line.ensures
+    let tokens = λ (ks : List Primitive). each_then (placed_then primitive_line_then) (map (λ k. bare (tree k)) ks) [] in
+    copy_printed (λ (k : Primitive). placed_then primitive_line_then (bare (tree k))) (λ k. placed_leads primitive_line_then line_leads (bare (tree k))) tokens (λ k others. refl) c.args.prims.now c.loop-prim.prim-index (prims.Null (vars.Shared 0)) c.loop-prim-test.true
+    c.loop-prim.out.text.items c.loop-prim.invariant (printed_at 0 (primitive_line_then (tree (get_or c.args.prims.now c.loop-prim.prim-index (prims.Null (vars.Shared 0))))) c.loop-prim.out.text.items c.in_ok-primitive_line.ensures)

@@ -17,7 +17,7 @@ none_there (Some first) r n e h = let was = (h first).1 refl in absurd cc
 
 pub returns-in-Ok-clause-read : goal.returns-in-Ok-clause-read
 returns-in-Ok-clause-read c =
-    rw (none_there (place_of c.args.name.now c.args.names.now.names) c.add.result c.in-Ok.number c.in-Ok.is c.add.ensures.duplicate) (ap Ok (sym c.in-Ok.ensures.ok.2))
+    rw (none_there (place_of c.args.name.value.now c.args.names.now.names) c.add.result c.in-Ok.number c.in-Ok.is c.add.ensures.duplicate) (ap Ok (sym c.in-Ok.ensures.ok.2))
 
 pub returns-in-Err-Duplicate-clause-read : goal.returns-in-Err-Duplicate-clause-read
 returns-in-Err-Duplicate-clause-read c =

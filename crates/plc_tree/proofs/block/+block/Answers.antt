@@ -1,4 +1,4 @@
-use Rattle.std.proofs.Common.{◌≡◌, ◌∙◌, ◌+◌, ◌-◌, ℕ, suc, ◌∷◌, [], ◌++◌, Ok, sym, ap, arith}
+use Rattle.std.proofs.Common.{◌≡◌, ◌∙◌, ◌+◌, ◌-◌, ℕ, suc, ◌∷◌, [], ◌++◌, Ok, refl, sym, ap, arith}
 use Rattle.std.proofs.lemmas.Result.{err_from_is_err_and}
 use Rattle.plc_syntax.specs.Syntax.{kinds}
 use Rattle.plc_syntax.specs.Trees.{BlockTree}
@@ -17,13 +17,13 @@ statements_at-returns-then-not-begins_statement t c =
     ∙ ap (λ (b : BlockTree). Ok (b, l.rest.at, kinds l.rest.tokens.now))
     (ap block_tree (sym c.shrink_to_fit.ensures.items) ∙ sym c.new.ensures)
 
-pub statements_at-returns-in_err-stmt : goal.statements_at-returns-in_err-stmt
-statements_at-returns-in_err-stmt t c =
+pub statements_at-returns-in_err-value : goal.statements_at-returns-in_err-value
+statements_at-returns-in_err-value t c =
     let l = c.loop-i in
     let p = err_from_is_err_and c.from_residual.result c.from_residual.ensures.1 in
     let more : c.args.most - l.i ≡ suc (c.args.most - 1 - l.i) = omega (arith, c.loop-i-test.true) in
     rw (p.1, p.2) (statements_stop _ (c.args.most - l.i) (c.args.most - 1 - l.i) l.rest.at (kinds l.rest.tokens.now)
-    l.stmts.items _ more (sym c.begins_statement.ensures ∙ c.if-not-begins_statement.false) c.in_err-stmt.ensures
+    l.stmts.items _ more (sym c.begins_statement.ensures ∙ c.if-not-begins_statement.false) c.in_err-value.ensures
     l.invariant)
 
 pub statements_at-loop-i-preserved : goal.statements_at-loop-i-preserved
@@ -31,13 +31,14 @@ statements_at-loop-i-preserved t c =
     let l = c.loop-i in
     let more : c.args.most - l.i ≡ suc (c.args.most - 1 - l.i) = omega (arith, c.loop-i-test.true) in
     let fuel : c.args.most - (l.i + 1) ≡ c.args.most - 1 - l.i = omega arith in
-    let at = c.in_ok-stmt.after.at in
-    let after = kinds c.in_ok-stmt.after.tokens.now in
+    let at = c.in_ok-value.after.at in
+    let after = kinds c.in_ok-value.after.tokens.now in
     ap (λ ss. statements_before ss (statements_of (c.args.most - (l.i + 1)) at after)) c.in_ok-push.ensures.items
-    ∙ ap (λ (m : ℕ). statements_before (l.stmts.items ++ c.in_ok-stmt.stmt ∷ []) (statements_of m at after)) fuel
+    ∙ ap (λ (m : ℕ). statements_before (l.stmts.items ++ record { at = l.rest.at; value = c.in_ok-value.value } ∷ [])
+    (statements_of m at after)) fuel
     ∙ sym (statements_turn (c.args.most - l.i) (c.args.most - 1 - l.i) l.rest.at at (kinds l.rest.tokens.now) after
-    l.stmts.items c.in_ok-stmt.stmt more (sym c.begins_statement.ensures ∙ c.if-not-begins_statement.false)
-    c.in_ok-stmt.ensures)
+    l.stmts.items (record { at = l.rest.at; value = c.in_ok-value.value }) more
+    (sym c.begins_statement.ensures ∙ c.if-not-begins_statement.false) refl c.in_ok-value.ensures)
     ∙ l.invariant
 
 pub statements_at-returns : goal.statements_at-returns

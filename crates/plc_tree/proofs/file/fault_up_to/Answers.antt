@@ -1,4 +1,4 @@
-use Rattle.std.proofs.Common.{◌≤◌, refl, arith}
+use Rattle.std.proofs.Common.{◌≤◌, refl, sym, arith}
 use Rattle.plc_tree.specs.FileViews.{file_tree}
 use Rattle.plc_tree.proofs.Nested.{cut_is_file, cut_fault, cut_begins}
 use Rattle.plc_tree.proofs.file.fault_up_to.Goals as goal
@@ -13,7 +13,7 @@ returns-then-is_up_to c =
 
 pub returns-in-Ok : goal.returns-in-Ok
 returns-in-Ok c =
-    (refl, cut_is_file c.args.tokens.now _ c.args.place refl (file_tree c.in-Ok.file, c.in-Ok.ensures.tree))
+    (refl, cut_is_file c.args.tokens.now _ c.args.place refl (file_tree c.in-Ok.file, sym c.in-Ok.ensures.tree.tokens))
 
 pub returns-else-is_up_to : goal.returns-else-is_up_to
 returns-else-is_up_to c = (

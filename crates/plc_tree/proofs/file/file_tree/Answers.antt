@@ -1,3 +1,4 @@
+use Rattle.std.proofs.Common.{sym}
 use Rattle.plc_syntax.specs.Syntax.{kinds}
 use Rattle.plc_tree.specs.declared.file.File.{File}
 use Rattle.plc_tree.specs.FileViews.{file_tree}
@@ -14,11 +15,11 @@ returns-in-Some-clause-nesting c = (deep_is_right {A = File} (kinds c.args.token
 
 pub returns-in-Ok-clause-file : goal.returns-in-Ok-clause-file
 returns-in-Ok-clause-file c = (read_is_right (kinds c.args.tokens.now) c.in-Ok.file
-    (file_tree c.in-Ok.file, c.in-Ok.ensures.tree) c.in_default.ensures).file
+    (file_tree c.in-Ok.file, sym c.in-Ok.ensures.tree.tokens) c.in_default.ensures).file
 
 pub returns-in-Ok-clause-syntax : goal.returns-in-Ok-clause-syntax
 returns-in-Ok-clause-syntax c = (read_is_right (kinds c.args.tokens.now) c.in-Ok.file
-    (file_tree c.in-Ok.file, c.in-Ok.ensures.tree) c.in_default.ensures).syntax_fault
+    (file_tree c.in-Ok.file, sym c.in-Ok.ensures.tree.tokens) c.in_default.ensures).syntax_fault
 
 pub returns-in-Err-Syntax-clause-file : goal.returns-in-Err-Syntax-clause-file
 returns-in-Err-Syntax-clause-file c = (shallow_is_right {A = File} (kinds c.args.tokens.now) c.in-Err-Syntax.at
