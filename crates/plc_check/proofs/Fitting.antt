@@ -10,7 +10,7 @@ use Rattle.plc_setting.specs.Fit.{Fits}
 use Rattle.plc_check.specs.declared.judged.Judged.{Judged}
 use Rattle.plc_check.specs.declared.judged.LoadFault.{LoadFault}
 use Rattle.plc_check.specs.Fit.{FilesFit, JudgedFits}
-use Rattle.plc_check.specs.Loading.{IsLoaded}
+use Rattle.plc_check.specs.Answered.{IsLoaded}
 
 -- the flow and the outline of a unit with few enough points
 pub unit_fits : (u : FileUnit) → UnitFits u → (made_of u.file).points ≤ most_points → Fits (flow_of u.file) u.outline

@@ -5,7 +5,7 @@ use Rattle.plc_flow.specs.Lowering.{made_of, most_points}
 use Rattle.plc_check.specs.declared.judged.Judged.{Judged}
 use Rattle.plc_check.specs.declared.judged.LoadFault.{LoadFault}
 use Rattle.plc_check.specs.declared.judged.LoadFault.TheVariants as faults
-use Rattle.plc_check.specs.Loading.{judged_of}
+use Rattle.plc_check.specs.Answered.{judged_of}
 use Rattle.plc_check.specs.Refusals.{IsLowered, IsLimited, IsJudgedOf}
 
 pub limited_of : (u : FileUnit) (j : Judged) → j ≡ judged_of u → (made_of u.file).points ≤ most_points

@@ -9,8 +9,10 @@ use Rattle.plc_lex.specs.Refused.{StopsWith}
 use Rattle.plc_scope.specs.declared.fault.ParseFault.{ParseFault}
 use Rattle.plc_scope.specs.declared.fault.ParseFault.TheVariants as parse
 use Rattle.plc_parse.specs.declared.unit.Unit.{Unit as FileUnit}
-use Rattle.plc_parse.specs.Units.{IsUnitOf, IsFaultOf}
-use Rattle.plc_check.specs.Loading.{IsFileOf, HasFault, HasParseFault, SpellsNothing, place_of, line_of}
+use Rattle.plc_parse.specs.Units.{IsUnitOf}
+use Rattle.plc_parse.specs.Faults.{IsFaultOf}
+use Rattle.plc_check.specs.Loading.{IsFileOf}
+use Rattle.plc_check.specs.Answered.{HasFault, HasParseFault, SpellsNothing, place_of, line_of}
 use Rattle.plc_check.specs.Refusals.{lex_refusal, parse_refusal}
 
 -- the unit of a file is that of the tokens that its bytes spell

@@ -14,7 +14,8 @@ use Rattle.plc_flow.specs.Lowering.{made_of, flow_of, most_points}
 use Rattle.plc_check.specs.declared.judged.Judged.{Judged}
 use Rattle.plc_check.specs.declared.judged.LoadFault.{LoadFault}
 use Rattle.plc_check.specs.declared.judged.LoadFault.TheVariants as faults
-use Rattle.plc_check.specs.Loading.{IsFileOf, SpellsUnit, IsLoaded, HasLimitFault, FilesAreUnique}
+use Rattle.plc_check.specs.Loading.{IsFileOf, SpellsUnit}
+use Rattle.plc_check.specs.Answered.{IsLoaded, HasLimitFault, FilesAreUnique}
 use Rattle.plc_check.specs.Refusals.{IsPassedLimit, IsJudgedOf}
 use Rattle.plc_check.proofs.Refusals.{unit_of}
 

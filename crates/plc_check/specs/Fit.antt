@@ -5,7 +5,8 @@ use Rattle.plc_oblig.specs.Outlines.{HasFewObligations, HasSmallSets}
 use Rattle.plc_parse.specs.declared.unit.Unit.{Unit as FileUnit}
 use Rattle.plc_parse.specs.Fit.{ObserverFits}
 use Rattle.plc_check.specs.declared.judged.Judged.{Judged}
-use Rattle.plc_check.specs.Loading.{IsFileOf, judged_of}
+use Rattle.plc_check.specs.Loading.{IsFileOf}
+use Rattle.plc_check.specs.Answered.{judged_of}
 
 -- the flow can be run and each thing stands in it where its kind may stand, so it is with the observer and the outline,
 -- and the outline is within its limits

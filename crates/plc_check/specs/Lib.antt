@@ -1,4 +1,5 @@
 -- what contracts of public calls say
+pub mod Answered
 pub mod Fit
 pub mod Loading
 pub mod Marks

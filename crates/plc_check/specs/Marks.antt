@@ -6,7 +6,7 @@ use Rattle.plc_syntax.specs.Marks.{tokens_use_marks}
 use Rattle.plc_syntax.specs.Syntax.{kinds}
 use Rattle.plc_setting.specs.Marks.{program_uses_marks}
 use Rattle.plc_check.specs.declared.judged.Judged.{Judged}
-use Rattle.plc_check.specs.Loading.{IsLoaded}
+use Rattle.plc_check.specs.Answered.{IsLoaded}
 
 -- of bytes that are loaded the flow or the outline uses marks exactly where the tokens do that the bytes spell
 abbrev pub FilesUseTheirMarks : Type 0

@@ -24,7 +24,7 @@ use Rattle.plc_oblig.specs.Outlines.{HasFewObligations, HasSmallSets, HasLargeSe
 use Rattle.plc_check.specs.declared.judged.Judged.{Judged}
 use Rattle.plc_check.specs.declared.judged.LoadFault.{LoadFault}
 use Rattle.plc_check.specs.declared.judged.LoadFault.TheVariants as faults
-use Rattle.plc_check.specs.Loading.{judged_of, line_of}
+use Rattle.plc_check.specs.Answered.{judged_of, line_of}
 
 -- a lower call's fault, of which running out of memory is none
 abbrev pub lex_refusal : LexFault → LoadFault

@@ -1,10 +1,11 @@
 // Bytes, tokens, unit, flow, limits of the outline: the first refusal on this way is the answer.
 ghost use Rattle.std.specs.Prelude.{◌≡◌, ◌<◌, ◌≤◌, ◌+◌, ◌^◌, length, IfOk};
-ghost use Rattle.plc_base.specs.Limits.{largest_file};
+ghost use Rattle.plc_base.specs.FileSizes.{largest_file};
 ghost use Rattle.plc_check.specs.Fit.{FilesFit, JudgedFits};
-ghost use Rattle.plc_check.specs.Loading.{IsLoaded, FilesAreUnique, line_of, place_of};
+ghost use Rattle.plc_check.specs.Answered.{IsLoaded, FilesAreUnique, line_of, place_of};
 ghost use Rattle.plc_check.specs.Marks.{FilesUseTheirMarks};
-ghost use Rattle.plc_lex.specs.Spelling.{AreTokensOf, line_feeds};
+ghost use Rattle.plc_lex.specs.Spelling.{AreTokensOf};
+ghost use Rattle.plc_lex.specs.Stops.{line_feeds};
 ghost use Rattle.plc_parse.specs.Fit.{UnitFits};
 ghost use Rattle.plc_auto.specs.Schemes.{schemes_of};
 ghost use Rattle.plc_check.specs.Refusals.{lex_refusal, parse_refusal, flow_refusal, unplaced_refusal};

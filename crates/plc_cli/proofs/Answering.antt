@@ -1,10 +1,10 @@
 -- What is due for a unit that was loaded is the answer to its bytes, and what is told of something right is due.
 use Rattle.std.proofs.Common.{◌≡◌, inr, ℕ, List, Result, Ok, Err, subst}
 use Rattle.std.specs.Prelude.{IfOk}
-use Rattle.plc_base.specs.Limits.{largest_file}
+use Rattle.plc_base.specs.FileSizes.{largest_file}
 use Rattle.plc_outside.specs.Known.{KnownFiles}
 use Rattle.plc_check.specs.declared.judged.Judged.{Judged}
-use Rattle.plc_check.specs.Loading.{IsLoaded, judged_of}
+use Rattle.plc_check.specs.Answered.{IsLoaded, judged_of}
 use Rattle.plc_cli.specs.declared.answer.Answer.{Answer}
 use Rattle.plc_cli.specs.Files.{IsAnsweredFile, IsTold}
 use Rattle.plc_cli.specs.Reads.{IsDueForFile, IsFound}

@@ -4,7 +4,7 @@ use Rattle.std.proofs.Common.{◌≡◌, ◌≤◌, ◌<◌, inl, inr, ◌⊎◌
 use Rattle.std.proofs.Common.{◌∙◌, subst, arith}
 use Rattle.std.specs.Prelude.{◌≢◌, Contains, IfSome, IsSome, IsSomeAnd, slice_get}
 use Rattle.std.proofs.lemmas.List.Elements.{All-contains}
-use Rattle.plc_base.specs.Limits.{largest_file, largest_schedule, largest_certificate}
+use Rattle.plc_base.specs.FileSizes.{largest_file, largest_schedule, largest_certificate}
 use Rattle.plc_outside.specs.Known.{KnownFiles, KnownSink}
 use Rattle.plc_outside.specs.Outside.{Rose, Appends}
 use Rattle.plc_outside.specs.Reading.{Reading}

@@ -2,7 +2,7 @@
 -- every run, since the outline that the claims extend holds.
 use Rattle.std.proofs.Common.{◌≡◌, inl, inr, ℕ, List, Option, Some, sym, subst, arith, length-append}
 use Rattle.std.specs.Prelude.{All}
-use Rattle.plc_base.specs.Limits.{largest_file}
+use Rattle.plc_base.specs.FileSizes.{largest_file}
 use Rattle.plc_outside.specs.Known.{KnownFiles, KnownSink}
 use Rattle.plc_parse.specs.declared.unit.Unit.{Unit as FileUnit}
 use Rattle.plc_flow.specs.Lowering.{flow_of}
@@ -25,7 +25,8 @@ use Rattle.plc_at.proofs.ReadingSoFar.{spelled_fit}
 use Rattle.plc_check.specs.declared.verdict.Verdict.{Verdict}
 use Rattle.plc_check.specs.declared.verdict.Verdict.TheVariants.{Safe, Untyped, Unproved}
 use Rattle.plc_check.specs.Fit.{JudgedFits}
-use Rattle.plc_check.specs.Loading.{IsFileOf, judged_of}
+use Rattle.plc_check.specs.Loading.{IsFileOf}
+use Rattle.plc_check.specs.Answered.{judged_of}
 use Rattle.plc_check.specs.Outlined.{outlined}
 use Rattle.plc_check.specs.Verdicts.{IsVerdictOn}
 use Rattle.plc_check.proofs.Fitting.{all_files_fit}

@@ -2,12 +2,13 @@
 use Rattle.std.proofs.Common.{◌≡◌, ℕ, List, [], ◌∷◌, Option, Some, ◌⊎◌, refl, sym, ap, ◌∙◌, subst, arith, inl, inr}
 use Rattle.std.specs.Prelude.{slice_get}
 use Rattle.std.proofs.lemmas.List.{append_cancel_left}
-use Rattle.plc_base.specs.Limits.{largest_schedule}
+use Rattle.plc_base.specs.FileSizes.{largest_schedule}
 use Rattle.plc_outside.specs.Known.{KnownFiles, KnownSink}
 use Rattle.plc_outside.specs.Outside.{Appends}
 use Rattle.plc_outside.specs.Reading.{Reading}
 use Rattle.plc_parse.specs.declared.unit.Unit.{Unit as FileUnit}
-use Rattle.plc_check.specs.Loading.{IsFileOf, judged_of}
+use Rattle.plc_check.specs.Loading.{IsFileOf}
+use Rattle.plc_check.specs.Answered.{judged_of}
 use Rattle.plc_check.proofs.Fitting.{all_files_fit}
 use Rattle.plc_check.proofs.Unique.{one_file}
 use Rattle.plc_sched.specs.declared.schedule.Schedule.{Schedule}

@@ -16,7 +16,7 @@ use Rattle.plc_check.specs.declared.certified.Certified.TheVariants.{Yes, No}
 use Rattle.plc_suggest.specs.declared.suggestion.Suggestion.{Suggestion}
 use Rattle.plc_suggest.specs.declared.suggestion.Suggestion.TheVariants.{Found, Insufficient}
 use Rattle.plc_at.specs.declared.claim.LocationClaim.{LocationClaim}
-use Rattle.plc_check.specs.Loading.{judged_of}
+use Rattle.plc_check.specs.Answered.{judged_of}
 use Rattle.plc_cli.specs.Certificates.{IsCertifiedAs, IsCertificateOf, IsCertificateJudged, IsCertificateAnswered, IsVerificationOf, certified_status}
 use Rattle.plc_cli.specs.Files.{IsAnsweredFile, IsTold, IsJudgedAs, IsAnswerTo, IsPrintedAs, IsPrintOf}
 use Rattle.plc_cli.specs.Samples.{IsSampledAs, IsSampleAnswer}

@@ -7,7 +7,8 @@ use Rattle.plc_parse.specs.declared.unit.Unit.{Unit as FileUnit}
 use Rattle.plc_flow.specs.Lowering.{flow_of}
 use Rattle.plc_flow.specs.Skeleton.{skeleton_of}
 use Rattle.plc_reclaim.specs.Meanings.{Meanings}
-use Rattle.plc_check.specs.Loading.{IsFileOf, judged_of}
+use Rattle.plc_check.specs.Loading.{IsFileOf}
+use Rattle.plc_check.specs.Answered.{judged_of}
 use Rattle.plc_suggest.specs.declared.suggestion.Suggestion.{Suggestion}
 use Rattle.plc_suggest.specs.declared.suggestion.Suggestion.TheVariants.{Found, Insufficient}
 use Rattle.plc_suggest.specs.Spots.{spots_of, marked}

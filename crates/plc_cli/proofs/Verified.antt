@@ -1,12 +1,13 @@
 -- From a certificate that is valid to what a 0 of `verify` says: the file is safe.
 use Rattle.std.proofs.Common.{◌≡◌, inl, inr, ℕ, List, Some, subst}
-use Rattle.plc_base.specs.Limits.{largest_certificate}
+use Rattle.plc_base.specs.FileSizes.{largest_certificate}
 use Rattle.plc_outside.specs.Known.{KnownFiles}
 use Rattle.plc_parse.specs.declared.unit.Unit.{Unit as FileUnit}
 use Rattle.plc_flow.specs.Lowering.{flow_of}
 use Rattle.plc_cert.specs.declared.cert.Cert.{Cert}
 use Rattle.plc_verify.proofs.Refused.{valid_prove}
-use Rattle.plc_check.specs.Loading.{IsFileOf, judged_of}
+use Rattle.plc_check.specs.Loading.{IsFileOf}
+use Rattle.plc_check.specs.Answered.{judged_of}
 use Rattle.plc_cli.specs.Certificates.{IsVerificationOf, IsCertificateAnswered, IsCertificateJudged}
 use Rattle.plc_cli.specs.Headline.{IsSafeProgram, IsSafePair}
 use Rattle.plc_cli.specs.Reads.{IsDueForPair}

@@ -1,11 +1,11 @@
 -- The status and the text that are due for words and files.
 use Rattle.std.specs.Prelude.{◌≡◌, ◌≢◌, ◌⊎◌, ◌<◌, ℕ, List}
 use Rattle.std.specs.Prelude.{[], length, Option, Some, None, slice_get}
-use Rattle.plc_base.specs.Limits.{largest_file, largest_schedule, largest_certificate}
+use Rattle.plc_base.specs.FileSizes.{largest_file, largest_schedule, largest_certificate}
 use Rattle.plc_outside.specs.Known.{KnownFiles, KnownSink}
 use Rattle.plc_outside.specs.Outside.{Rose, Appends, AppendsPart}
 use Rattle.plc_check.specs.declared.judged.Judged.{Judged}
-use Rattle.plc_check.specs.Loading.{judged_of}
+use Rattle.plc_check.specs.Answered.{judged_of}
 use Rattle.plc_flow.specs.WellFormed.{FlowFits}
 use Rattle.plc_sched.specs.declared.schedule.Schedule.{Schedule}
 use Rattle.plc_sched.specs.declared.fault.SchedFault.{SchedFault}

@@ -2,7 +2,7 @@
 use Rattle.std.specs.Prelude.{◌≡◌, ◌≢◌, ◌⊎◌, ◌<◌, ◌≤◌, ℕ}
 use Rattle.std.specs.Prelude.{List, [], ◌∷◌, length, slice_get, All, Contains}
 use Rattle.std.specs.Prelude.{Option, None, Some, IsSome, IfSome, IsSomeAnd}
-use Rattle.plc_base.specs.Limits.{largest_file, largest_schedule, largest_certificate}
+use Rattle.plc_base.specs.FileSizes.{largest_file, largest_schedule, largest_certificate}
 use Rattle.plc_outside.specs.FixedBytes as fixed
 use Rattle.plc_outside.specs.HonestFiles as honest
 use Rattle.plc_outside.specs.Known.{KnownFiles, KnownSink}

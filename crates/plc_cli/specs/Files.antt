@@ -5,7 +5,8 @@ use Rattle.plc_print.specs.Text.{canonical_text}
 use Rattle.plc_check.specs.declared.judged.Judged.{Judged}
 use Rattle.plc_check.specs.declared.judged.LoadFault.{LoadFault}
 use Rattle.plc_check.specs.declared.judged.LoadFault.TheVariants.{Memory}
-use Rattle.plc_check.specs.Loading.{IsFileOf, HasFault, judged_of}
+use Rattle.plc_check.specs.Loading.{IsFileOf}
+use Rattle.plc_check.specs.Answered.{HasFault, judged_of}
 use Rattle.plc_check.specs.Verdicts.{IsVerdictOn}
 use Rattle.plc_cli.specs.Refusals.{load_fault_text}
 use Rattle.plc_cli.specs.Statuses.{holds, refused}

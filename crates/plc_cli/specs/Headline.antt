@@ -1,6 +1,6 @@
 -- What a 0 means, and when it comes.
 use Rattle.std.specs.Prelude.{◌≡◌, ◌⊎◌, ◌≤◌, ℕ, List, Option, Some, length}
-use Rattle.plc_base.specs.Limits.{largest_file, largest_certificate}
+use Rattle.plc_base.specs.FileSizes.{largest_file, largest_certificate}
 use Rattle.plc_outside.specs.Known.{KnownFiles}
 use Rattle.plc_parse.specs.declared.unit.Unit.{Unit as FileUnit}
 use Rattle.plc_flow.specs.Lowering.{flow_of}

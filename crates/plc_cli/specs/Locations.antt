@@ -1,6 +1,6 @@
 -- What `locate` answers, and what a 0 of it says.
 use Rattle.std.specs.Prelude.{◌≡◌, ◌⊎◌, ◌+◌, ◌<◌, ◌≤◌, ℕ, List, length, Option, Some}
-use Rattle.plc_base.specs.Limits.{largest_file}
+use Rattle.plc_base.specs.FileSizes.{largest_file}
 use Rattle.plc_base.specs.declared.limits.What1.{What1}
 use Rattle.plc_base.specs.declared.limits.What1.TheVariants as limits
 use Rattle.plc_outside.specs.Known.{KnownFiles}
@@ -25,7 +25,8 @@ use Rattle.plc_at.specs.Extended.{AreLocated, IsFirstUnlocated, extended, most_i
 use Rattle.plc_check.specs.declared.judged.Judged.{Judged}
 use Rattle.plc_check.specs.declared.verdict.Verdict.{Verdict}
 use Rattle.plc_check.specs.declared.verdict.Verdict.TheVariants.{Safe, Untyped, Unproved}
-use Rattle.plc_check.specs.Loading.{IsFileOf, HasLexFault, judged_of}
+use Rattle.plc_check.specs.Loading.{IsFileOf}
+use Rattle.plc_check.specs.Answered.{HasLexFault, judged_of}
 use Rattle.plc_check.specs.Outlined.{outlined, IsOutlineLimit}
 use Rattle.plc_check.specs.Strongest.{IsStrongestTyping}
 use Rattle.plc_check.specs.Verdicts.{IsVerdictOn}

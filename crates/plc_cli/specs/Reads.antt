@@ -1,7 +1,7 @@
 -- What the reads of a call come to, by what is known of the files before and after.
 use Rattle.std.specs.Prelude.{◌≡◌, ◌⊎◌, ℕ, ◌<◌, ◌≤◌}
 use Rattle.std.specs.Prelude.{List, [], ◌∷◌, ◌++◌, length, IfSome}
-use Rattle.plc_base.specs.Limits.{largest_file}
+use Rattle.plc_base.specs.FileSizes.{largest_file}
 use Rattle.plc_outside.specs.Known.{KnownFiles}
 use Rattle.plc_outside.specs.Reading.{Reading}
 use Rattle.plc_texts.specs.Refusals.{read_failed_text, read_too_long_text}

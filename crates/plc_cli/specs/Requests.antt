@@ -4,7 +4,7 @@ use Rattle.std.specs.Prelude.{List, [], ◌∷◌, codes, decimal}
 use Rattle.std.specs.Prelude.{Option, Some, None, option_map, option_and_then}
 use Rattle.std.specs.Str.{bytes_eq}
 use Rattle.plc_reclaim.specs.Lookup.{first_named}
-use Rattle.plc_base.specs.Limits.{most_copies}
+use Rattle.plc_base.specs.Bounds.{most_copies}
 use Rattle.plc_sample.specs.Numbers.{sample_lines}
 
 -- a command with its files; a replay also with the number of its reclaimer among those that are there; a sample has its

@@ -3,7 +3,7 @@ use Rattle.std.specs.Prelude.{ℕ, List}
 use Rattle.plc_check.specs.declared.judged.Judged.{Judged}
 use Rattle.plc_check.specs.declared.verdict.Verdict.{Verdict}
 use Rattle.plc_check.specs.declared.verdict.Verdict.TheVariants.{Safe, Untyped, Unproved}
-use Rattle.plc_check.specs.Loading.{judged_of}
+use Rattle.plc_check.specs.Answered.{judged_of}
 use Rattle.plc_check.specs.Verdicts.{IsVerdictOn}
 use Rattle.plc_sample.specs.Sample.{sample_text}
 use Rattle.plc_texts.specs.Samples.{summary_text}

@@ -3,7 +3,8 @@ use Rattle.std.specs.Prelude.{◌≡◌, ℕ, List, [], ◌∷◌, Option, Some,
 use Rattle.plc_outside.specs.Known.{KnownFiles, KnownSink}
 use Rattle.plc_outside.specs.Outside.{Appends}
 use Rattle.plc_parse.specs.declared.unit.Unit.{Unit as FileUnit}
-use Rattle.plc_check.specs.Loading.{IsFileOf, judged_of}
+use Rattle.plc_check.specs.Loading.{IsFileOf}
+use Rattle.plc_check.specs.Answered.{judged_of}
 use Rattle.plc_sched.specs.declared.schedule.Schedule.{Schedule}
 use Rattle.plc_sched.specs.Schedules.{IsScheduleOf}
 use Rattle.plc_reclaim.specs.Meanings.{Meanings}

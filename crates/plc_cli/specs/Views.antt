@@ -1,6 +1,6 @@
 -- What the program's requests and a file that was loaded stand for.
 use Rattle.std.specs.Prelude.{◌≡◌, ◌⊎◌, ℕ, ◌<◌, ◌≤◌, List, All}
-use Rattle.plc_base.specs.Limits.{most_copies}
+use Rattle.plc_base.specs.Bounds.{most_copies}
 use Rattle.plc_lex.specs.declared.token.Token.{Token}
 use Rattle.plc_lex.specs.Spelling.{AreTokensOf}
 use Rattle.plc_syntax.specs.Syntax.{kinds}

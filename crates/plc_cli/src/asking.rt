@@ -2,9 +2,9 @@
 // where they are refused that is the answer. So a question says no more than what is due for a file that was loaded.
 // `replay` loads its file itself, since a reclaimer is lent to it meanwhile.
 ghost use Rattle.std.specs.Prelude.{◌≡◌, ◌≤◌, IfOk, length};
-ghost use Rattle.plc_base.specs.Limits.{largest_file};
+ghost use Rattle.plc_base.specs.FileSizes.{largest_file};
 ghost use Rattle.plc_setting.specs.Fit.{Fits};
-ghost use Rattle.plc_check.specs.Loading.{judged_of};
+ghost use Rattle.plc_check.specs.Answered.{judged_of};
 ghost use Rattle.plc_cli.specs.Files.{IsAnsweredFile};
 ghost use Rattle.plc_cli.specs.Reads.{FilesAreKept, IsDueForFile, IsDueForPair};
 

@@ -3,7 +3,7 @@
 // file's own outline is moved out of what was loaded. The first refusal on the way is the answer: the bytes of the
 // file, those of the claims, the types, the claims under them, the limits of the longer outline.
 ghost use Rattle.std.specs.Prelude.{◌≡◌, ◌<◌, ◌≤◌, ◌^◌, IfOk, All, length};
-ghost use Rattle.plc_base.specs.Limits.{largest_file};
+ghost use Rattle.plc_base.specs.FileSizes.{largest_file};
 ghost use Rattle.plc_setting.specs.Fit.{Fits};
 ghost use Rattle.plc_at.specs.Claims.{ClaimFits};
 ghost use Rattle.plc_check.specs.Strongest.{IsStrongestTyping};

@@ -1,6 +1,6 @@
 // What a recorded schedule leads to in the program of a file, under a reclaimer.
 ghost use Rattle.std.specs.Prelude.{◌≡◌, ◌≤◌, IfOk, length};
-ghost use Rattle.plc_base.specs.Limits.{largest_file, largest_schedule};
+ghost use Rattle.plc_base.specs.FileSizes.{largest_file, largest_schedule};
 ghost use Rattle.plc_flow.specs.WellFormed.{FlowFits};
 ghost use Rattle.plc_replay.specs.Outcome.{ComesTo};
 ghost use Rattle.plc_cli.specs.Answer.{IsReplayOf, IsScheduleAnswered, IsEndOf, CanBeReplayed};

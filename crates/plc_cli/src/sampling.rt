@@ -1,6 +1,6 @@
 // The verdict on a sample: its text is made, and then judged as that of a file is.
 ghost use Rattle.std.specs.Prelude.{◌≡◌, ◌≤◌, IfOk};
-ghost use Rattle.plc_base.specs.Limits.{most_copies};
+ghost use Rattle.plc_base.specs.Bounds.{most_copies};
 ghost use Rattle.plc_sample.specs.Numbers.{sample_lines};
 ghost use Rattle.plc_cli.specs.Samples.{IsSampleAnswer, IsSampledAs, sampled_text};
 ghost use Rattle.plc_cli.specs.Verdicts.{verdict_status};

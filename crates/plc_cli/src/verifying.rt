@@ -1,6 +1,6 @@
 // Whether a certificate is valid for a file. No verdict is made: neither the inference nor the solver is called.
 ghost use Rattle.std.specs.Prelude.{IfOk};
-ghost use Rattle.plc_base.specs.Limits.{largest_certificate};
+ghost use Rattle.plc_base.specs.FileSizes.{largest_certificate};
 ghost use Rattle.plc_setting.specs.Fit.{Fits};
 ghost use Rattle.plc_cli.specs.Certificates.{IsCertificateAnswered, IsCertificateJudged};
 

@@ -13,7 +13,8 @@ use Rattle.plc_sched.specs.declared.schedule.Schedule.{Schedule}
 use Rattle.plc_replay.specs.declared.end.End.TheVariants.{Race}
 use Rattle.plc_replay.specs.Outcome.{LineLeads, ComesFrom, Comes, ComesTo}
 use Rattle.plc_parse.specs.declared.unit.Unit.{Unit as FileUnit}
-use Rattle.plc_check.specs.Loading.{IsFileOf, judged_of}
+use Rattle.plc_check.specs.Loading.{IsFileOf}
+use Rattle.plc_check.specs.Answered.{judged_of}
 use Rattle.plc_check.proofs.Unique.{one_file}
 use Rattle.plc_cli.specs.Headline.{IsProved}
 use Rattle.plc_cli.proofs.Racing.{never_races}

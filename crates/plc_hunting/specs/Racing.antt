@@ -11,7 +11,7 @@ use Rattle.plc_sched.specs.Schedules.{IsScheduleOf}
 use Rattle.plc_replay.specs.declared.end.End.TheVariants as ends
 use Rattle.plc_replay.specs.Outcome.{ComesTo}
 use Rattle.plc_check.specs.declared.judged.Judged.{Judged}
-use Rattle.plc_check.specs.Loading.{judged_of}
+use Rattle.plc_check.specs.Answered.{judged_of}
 use Rattle.plc_cli.specs.Files.{IsAnsweredFile}
 use Rattle.plc_cli.specs.Statuses.{holds, fails}
 use Rattle.plc_hunting.specs.Texts.{run_text}

@@ -2,7 +2,7 @@
 // schedule that is found; both are made in the call that hands them on, since no function may hand out a value of a
 // trait.
 ghost use Rattle.std.specs.Prelude.{◌≤◌, length};
-ghost use Rattle.plc_base.specs.Limits.{largest_file};
+ghost use Rattle.plc_base.specs.FileSizes.{largest_file};
 
 use crate::hunting::{Hunted, hunt_freely, hunt_under};
 use plc_base::{LARGEST_FILE, NoMemory};

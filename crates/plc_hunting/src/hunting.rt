@@ -1,7 +1,7 @@
 // A hunt in the bytes of a file: a short run of its program that races (quarry.rt) is written, and followed once more
 // as it is written. The answer rests on that alone.
 ghost use Rattle.std.specs.Prelude.{◌≡◌, ◌≤◌, [], false, IfOk, IfSome, IsTrue, length};
-ghost use Rattle.plc_base.specs.Limits.{largest_file};
+ghost use Rattle.plc_base.specs.FileSizes.{largest_file};
 ghost use Rattle.plc_flow.specs.WellFormed.{FlowFits};
 ghost use Rattle.plc_cli.specs.Refusals.{load_fault_text};
 ghost use Rattle.plc_cli.specs.Statuses.{holds, fails, refused};

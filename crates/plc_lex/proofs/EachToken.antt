@@ -4,7 +4,8 @@ use Rattle.std.proofs.lemmas.List.Sums.{prefix_len-le-length}
 use Rattle.std.proofs.lemmas.List.Elements.{All-cons}
 use Rattle.plc_lex.specs.declared.token.Token.{Token}
 use Rattle.plc_lex.specs.Characters.{in_comment}
-use Rattle.plc_lex.specs.Spelling.{comment_length, next_line, IsToken, Spells, at_end, after_space, after_comment, token}
+use Rattle.plc_lex.specs.Spelling.{comment_length, next_line, Spells, at_end, after_space, after_comment, token}
+use Rattle.plc_lex.specs.Stops.{IsToken}
 use Rattle.plc_lex.proofs.Pieces.{piece_is}
 
 next_line_within : (line b : ℕ) → next_line line b ≤ line + 1

@@ -5,7 +5,8 @@ use Rattle.std.proofs.lemmas.List.Elements.{All-cons, All-nil}
 use Rattle.std.proofs.lemmas.List.Sums.{sum_by-take-drop}
 use Rattle.plc_lex.specs.declared.token.Token.{Token}
 use Rattle.plc_lex.specs.Characters.{in_comment}
-use Rattle.plc_lex.specs.Spelling.{comment_length, next_line, token_from, line_feeds, Spells, at_end, after_space, after_comment, token}
+use Rattle.plc_lex.specs.Spelling.{comment_length, next_line, token_from, Spells, at_end, after_space, after_comment, token}
+use Rattle.plc_lex.specs.Stops.{line_feeds}
 use Rattle.plc_lex.proofs.Pieces.{piece_is, front_free, feeds_cons}
 
 -- line feeds in front of a place and after it

@@ -11,7 +11,8 @@ use Rattle.plc_lex.specs.declared.token.Symbol.{Symbol as SymbolName}
 use Rattle.plc_lex.specs.declared.token.TokenKind.{TokenKind}
 use Rattle.plc_lex.specs.declared.token.TokenKind.TheVariants.{Number, Symbol}
 use Rattle.plc_lex.specs.Characters.{is_letter, is_digit, in_name, keyword_of, symbols_longest_first, symbol_in, symbol_of}
-use Rattle.plc_lex.specs.Spelling.{Refusal, long_name, bad_number, word_of, name_or_word, is_plain, value, name_at, number_at, symbol_or_none, symbol_at, token_at, IsName, IsKind, line_feeds}
+use Rattle.plc_lex.specs.Spelling.{Refusal, long_name, bad_number, word_of, name_or_word, is_plain, value, name_at, number_at, symbol_or_none, symbol_at, token_at}
+use Rattle.plc_lex.specs.Stops.{IsName, IsKind, line_feeds}
 
 -- a token of so many bytes at the front, none of them a line feed
 pub record IsPiece (bytes : List ℕ) (kind : TokenKind) (n : ℕ) : Type 0 where

@@ -6,7 +6,8 @@ use Rattle.plc_lex.specs.declared.fault.LexFault.{LexFault}
 use Rattle.plc_lex.specs.declared.fault.LexFault.TheVariants.{BadByte, LongName, BadNumber, Memory}
 use Rattle.plc_lex.specs.declared.rest.Rest.{Rest}
 use Rattle.plc_lex.specs.Characters.{is_space}
-use Rattle.plc_lex.specs.Spelling.{token_at, is_comment, comment_length, next_line, Spells, at_end, after_space, after_comment, token, Stops, here, past_space, past_comment, past_token}
+use Rattle.plc_lex.specs.Spelling.{token_at, is_comment, comment_length, next_line, Spells, at_end, after_space, after_comment, token}
+use Rattle.plc_lex.specs.Stops.{Stops, here, past_space, past_comment, past_token}
 use Rattle.plc_lex.specs.Refused.{StopsWith}
 use Rattle.plc_lex.specs.Reading.{IsFaultAt}
 use Rattle.plc_lex.specs.Reading.{IsAtToken, Reads}

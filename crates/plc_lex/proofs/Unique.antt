@@ -7,7 +7,8 @@ use Rattle.plc_lex.specs.Characters.{is_space}
 use Rattle.plc_lex.specs.declared.fault.LexFault.{LexFault}
 use Rattle.plc_lex.specs.declared.fault.LexFault.TheVariants.{BadByte, LongName, BadNumber, Memory}
 use Rattle.plc_lex.specs.Refused.{StopsWith}
-use Rattle.plc_lex.specs.Spelling.{Refusal, bad_byte, long_name, bad_number, token_at, is_blank, is_comment, comment_length, next_line, token_from, Spells, at_end, after_space, after_comment, token, Stops, here, past_space, past_comment, past_token}
+use Rattle.plc_lex.specs.Spelling.{Refusal, bad_byte, long_name, bad_number, token_at, is_blank, is_comment, comment_length, next_line, token_from, Spells, at_end, after_space, after_comment, token}
+use Rattle.plc_lex.specs.Stops.{Stops, here, past_space, past_comment, past_token}
 
 -- what stands at the front: the end, so many bytes up to a line, or a token or its refusal on a line
 data Next : Type 0 where

@@ -35,19 +35,6 @@ in_comment b = not (b == 10)
 abbrev pub comment_opening : List ℕ
 comment_opening = codes "//"
 
--- whether two keywords are one
-abbrev pub same_word : Keyword → Keyword → Bool
-same_word a b = sameb keyword.the_type a b
-
--- whether two symbols are one
-abbrev pub same_symbol : Symbol → Symbol → Bool
-same_symbol a b = sameb symbol.the_type a b
-
--- the text with which an entry stands in a table, or nothing where it isn't there
-abbrev pub text_in : {A : Type 0} → (A → A → Bool) → List (List ℕ × A) → A → List ℕ
-text_in same [] x = []
-text_in same (entry ∷ more) x = if same entry.1 x then entry.0 else text_in same more x
-
 -- the words that can't be names
 unfoldable pub keywords : List (List ℕ × Keyword)
 keywords =
@@ -75,10 +62,6 @@ keyword_in table run =
 unfoldable pub keyword_of : List ℕ → Option Keyword
 keyword_of run = keyword_in keywords run
 
--- the letters of a keyword
-abbrev pub word_text : Keyword → List ℕ
-word_text word = text_in same_word keywords word
-
 -- the symbols, the longest first
 unfoldable pub symbols_longest_first : List (List ℕ × Symbol)
 symbols_longest_first =
@@ -98,7 +81,3 @@ symbol_in table bytes =
 -- the longest symbol with which bytes begin, and its length
 unfoldable pub symbol_of : List ℕ → Option (Symbol × ℕ)
 symbol_of bytes = symbol_in symbols_longest_first bytes
-
--- the characters of a symbol
-abbrev pub symbol_text : Symbol → List ℕ
-symbol_text symbol = text_in same_symbol symbols_longest_first symbol

@@ -2,5 +2,7 @@
 pub mod Characters
 pub mod Refused
 pub mod Spelling
+pub mod Stops
+pub mod Texts
 -- words of private functions alone
 pub mod Reading

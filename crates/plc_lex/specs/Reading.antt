@@ -5,7 +5,8 @@ use Rattle.plc_lex.specs.declared.token.TokenKind.{TokenKind}
 use Rattle.plc_lex.specs.declared.fault.LexFault.{LexFault}
 use Rattle.plc_lex.specs.declared.fault.LexFault.TheVariants.{BadByte, LongName, BadNumber, Memory}
 use Rattle.plc_lex.specs.declared.rest.Rest.{Rest}
-use Rattle.plc_lex.specs.Spelling.{Refusal, bad_byte, long_name, bad_number, is_blank, is_comment, Spells, Stops}
+use Rattle.plc_lex.specs.Spelling.{Refusal, bad_byte, long_name, bad_number, is_blank, is_comment, Spells}
+use Rattle.plc_lex.specs.Stops.{Stops}
 
 -- neither a space nor a comment begins here
 pub record IsAtToken (bytes : List ℕ) : Type 0 where

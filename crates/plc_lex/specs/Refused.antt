@@ -2,7 +2,8 @@
 use Rattle.std.specs.Prelude.{ℕ, List}
 use Rattle.plc_lex.specs.declared.fault.LexFault.{LexFault}
 use Rattle.plc_lex.specs.declared.fault.LexFault.TheVariants.{BadByte, LongName, BadNumber, Memory}
-use Rattle.plc_lex.specs.Spelling.{bad_byte, long_name, bad_number, Stops}
+use Rattle.plc_lex.specs.Spelling.{bad_byte, long_name, bad_number}
+use Rattle.plc_lex.specs.Stops.{Stops}
 
 -- bytes that begin at a place stop with a fault; running out of memory says nothing
 abbrev pub StopsWith : ℕ → List ℕ → LexFault → Type 0

@@ -1,7 +1,7 @@
 // What is left of a text, with the place and the line at which that begins. A token and a fault
 // take their places from it, so that nothing is counted twice.
 ghost use Rattle.std.specs.Prelude.{◌≡◌, ◌≤◌, ◌+◌, length, drop};
-ghost use Rattle.plc_base.specs.Limits.{largest_file};
+ghost use Rattle.plc_base.specs.FileSizes.{largest_file};
 
 /// What is left of a text, with its place and its line.
 #[derive(Clone, Copy)]

@@ -1,7 +1,8 @@
 // The written keywords and symbols, as two tables in the order of the language's description. Reading searches them,
 // and printing takes the row whose number is the variant's, so that no word is spelled twice and none lacks a text.
 ghost use Rattle.std.specs.Prelude.{◌≡◌, Some, length, map};
-ghost use Rattle.plc_lex.specs.Characters.{keyword_in, keyword_of, symbol_in, symbol_of, symbol_text, word_text};
+ghost use Rattle.plc_lex.specs.Characters.{keyword_in, keyword_of, symbol_in, symbol_of};
+ghost use Rattle.plc_lex.specs.Texts.{symbol_text, word_text};
 
 use crate::token::{Keyword, Symbol};
 

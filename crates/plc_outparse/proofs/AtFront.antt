@@ -6,7 +6,7 @@ use Rattle.plc_scope.specs.declared.fault.ParseFault.{ParseFault}
 use Rattle.plc_scope.specs.declared.fault.ParseFault.TheVariants as faults
 use Rattle.plc_scope.specs.declared.scope.Scope.{Scope}
 use Rattle.plc_scope.specs.Answers.{FailsAs}
-use Rattle.plc_syntax.specs.Syntax.{AreOfOutline}
+use Rattle.plc_syntax.specs.Stops.{AreOfOutline}
 use Rattle.plc_syntax.specs.Trees.{OutlineTree}
 use Rattle.plc_outparse.specs.Meaning.{outline_means}
 use Rattle.plc_outparse.specs.Outlines.{IsPartFault, no_meaning, no_memory}

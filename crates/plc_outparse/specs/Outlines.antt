@@ -3,7 +3,7 @@ use Rattle.std.specs.Prelude.{◌≡◌, ℕ, ◌+◌, List, length, Result, Err
 use Rattle.plc_lex.specs.declared.token.TokenKind.{TokenKind}
 use Rattle.plc_lang.specs.declared.syntax.Op.{Op}
 use Rattle.plc_syntax.specs.declared.rest.Rest.{Rest}
-use Rattle.plc_syntax.specs.Syntax.{AreOfOutline, OutlineFaultAt}
+use Rattle.plc_syntax.specs.Stops.{AreOfOutline, OutlineFaultAt}
 use Rattle.plc_syntax.specs.Trees.{OutlineTree}
 use Rattle.plc_scope.specs.declared.fault.ParseFault.{ParseFault}
 use Rattle.plc_scope.specs.declared.fault.ParseFault.TheVariants as faults

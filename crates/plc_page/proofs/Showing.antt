@@ -2,7 +2,7 @@
 use Rattle.std.proofs.Common.{inr, ℕ, List, Result, Ok, refl, subst}
 use Rattle.std.specs.Prelude.{IfOk}
 use Rattle.plc_check.specs.declared.judged.Judged.{Judged}
-use Rattle.plc_check.specs.Loading.{IsLoaded}
+use Rattle.plc_check.specs.Answered.{IsLoaded}
 use Rattle.plc_cli.specs.Files.{IsJudgedAs}
 use Rattle.plc_cli.specs.Verdicts.{verdict_status, verdict_text}
 use Rattle.plc_cli.proofs.Answering.{if_ok_from}

@@ -1,7 +1,7 @@
 // The page of a file: the answer, what it is about, the file, and its points. What follows the answer is made apart,
 // so that the page shows the answer whatever is said of it.
 ghost use Rattle.std.specs.Prelude.{◌≡◌, ◌≤◌, IfOk, length};
-ghost use Rattle.plc_base.specs.Limits.{largest_file};
+ghost use Rattle.plc_base.specs.FileSizes.{largest_file};
 ghost use Rattle.plc_flow.specs.Skeleton.{skeleton_of};
 ghost use Rattle.plc_setting.specs.Fit.{Fits};
 ghost use Rattle.plc_xfer.specs.Typings.{IsStrongest};

@@ -1,6 +1,6 @@
 // The answer as lines for editors and tools, each `NAME:LINE: SENTENCE`.
 ghost use Rattle.std.specs.Prelude.{◌≤◌, length};
-ghost use Rattle.plc_base.specs.Limits.{largest_file};
+ghost use Rattle.plc_base.specs.FileSizes.{largest_file};
 ghost use Rattle.plc_setting.specs.Fit.{Fits};
 
 use crate::page::clauses_in;

@@ -14,7 +14,8 @@ use Rattle.plc_tree.proofs.Places.{file_is_one}
 use Rattle.plc_parse.specs.declared.unit.Unit.{Unit as FileUnit}
 use Rattle.plc_parse.specs.Fit.{ObserverFits, UnitFits, UnitsFit}
 use Rattle.plc_parse.specs.Meaning.{file_means}
-use Rattle.plc_parse.specs.Units.{lines_of, IsUnitOf, IsFaultOf, no_unit, no_memory, UnitsAreUnique}
+use Rattle.plc_parse.specs.Units.{lines_of, IsUnitOf}
+use Rattle.plc_parse.specs.Faults.{IsFaultOf, no_unit, no_memory, UnitsAreUnique}
 use Rattle.plc_parse.proofs.Naming.{file_named}
 use Rattle.plc_parse.proofs.Fits.{file_fits}
 use Rattle.plc_parse.proofs.Whole.{file_whole}

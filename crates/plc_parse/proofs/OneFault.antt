@@ -7,7 +7,8 @@ use Rattle.plc_tree.proofs.Places.{faults_one}
 use Rattle.plc_scope.specs.declared.fault.ParseFault.{ParseFault}
 use Rattle.plc_scope.specs.declared.fault.ParseFault.TheVariants as faults
 use Rattle.plc_parse.specs.declared.unit.Unit.{Unit as FileUnit}
-use Rattle.plc_parse.specs.Units.{AreRead, IsFaultOf, no_file, too_deep, no_unit, no_memory, FaultsAreOne}
+use Rattle.plc_parse.specs.Units.{AreRead}
+use Rattle.plc_parse.specs.Faults.{IsFaultOf, no_file, too_deep, no_unit, no_memory, FaultsAreOne}
 use Rattle.plc_parse.proofs.Answering.{one_meaning}
 
 module _ (ts : List Token) where

@@ -1,6 +1,7 @@
 -- what contracts of public calls say
 pub mod Meaning
 pub mod Units
+pub mod Faults
 pub mod Fit
 pub mod Marks
 -- words of private functions alone

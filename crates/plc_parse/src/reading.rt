@@ -5,7 +5,8 @@ ghost use Rattle.plc_lang.specs.WellSorted.{FileIsWellSorted};
 ghost use Rattle.plc_logic.specs.Fit.{OutlineFits};
 ghost use Rattle.plc_parse.specs.declared.unit.Unit.{Unit as FileUnit};
 ghost use Rattle.plc_parse.specs.Fit.{ObserverFits, UnitsFit};
-ghost use Rattle.plc_parse.specs.Units.{IsUnitOf, IsFaultOf, UnitsAreUnique, FaultsAreOne};
+ghost use Rattle.plc_parse.specs.Units.{IsUnitOf};
+ghost use Rattle.plc_parse.specs.Faults.{IsFaultOf, UnitsAreUnique, FaultsAreOne};
 
 use crate::file::file_unit;
 use crate::unit::Unit;

@@ -4,7 +4,7 @@ use Rattle.std.specs.List.{AllByRecursion}
 use Rattle.plc_lex.specs.declared.token.TokenKind.{TokenKind}
 use Rattle.plc_lex.specs.declared.token.TokenKind.TheVariants.{Word, Name, Number, Symbol}
 use Rattle.plc_lex.specs.declared.token.Symbol.TheVariants.{OpenBrace, CloseBrace}
-use Rattle.plc_lex.specs.Spelling.{IsKind}
+use Rattle.plc_lex.specs.Stops.{IsKind}
 use Rattle.plc_syntax.specs.Trees.{FileTree, file_tokens}
 use Rattle.plc_syntax.specs.Nesting.{NoneTooDeep}
 use Rattle.plc_syntax.proofs.Unplaced.{unplaced_file}

@@ -14,7 +14,8 @@ use Rattle.plc_lex.specs.declared.token.Keyword.TheVariants as words
 use Rattle.plc_lex.specs.declared.token.Symbol.{Symbol as Punctuation}
 use Rattle.plc_lex.specs.declared.token.Symbol.TheVariants as symbols
 use Rattle.plc_lex.specs.Characters.{is_space, is_letter, is_digit, in_name, keywords, keyword_of, symbols_longest_first, symbol_of}
-use Rattle.plc_lex.specs.Spelling.{Refusal, long_name, bad_number, word_of, name_or_word, value, is_plain, name_at, number_at, symbol_at, token_at, is_comment, is_blank, next_line, token_from, Spells, at_end, after_space, token, IsName, IsKind}
+use Rattle.plc_lex.specs.Spelling.{Refusal, long_name, bad_number, word_of, name_or_word, value, is_plain, name_at, number_at, symbol_at, token_at, is_comment, is_blank, next_line, token_from, Spells, at_end, after_space, token}
+use Rattle.plc_lex.specs.Stops.{IsName, IsKind}
 use Rattle.plc_syntax.specs.Syntax.{kinds}
 use Rattle.plc_print.specs.Text.{token_text, after, text_of}
 use Rattle.plc_print.specs.Laws.{TextIsReadBack}

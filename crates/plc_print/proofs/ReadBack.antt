@@ -3,7 +3,8 @@ use Rattle.std.proofs.Common.{◌≡◌, ℕ, List, [], length, Result, Ok, Err,
 use Rattle.std.specs.List.{AllByRecursion}
 use Rattle.std.proofs.lemmas.List.Elements.{recursion_from_All, All-map, All-weaker}
 use Rattle.plc_lex.specs.declared.token.Token.{Token}
-use Rattle.plc_lex.specs.Spelling.{IsKind, IsToken, Spells}
+use Rattle.plc_lex.specs.Spelling.{Spells}
+use Rattle.plc_lex.specs.Stops.{IsKind, IsToken}
 use Rattle.plc_lex.proofs.EachToken.{each_token}
 use Rattle.plc_syntax.specs.Trees.{FileTree, file_tokens}
 use Rattle.plc_syntax.specs.Syntax.{kinds}

@@ -1,10 +1,11 @@
 -- What is read back from a canonical text: the same unit but for the lines of its tokens.
 use Rattle.std.specs.Prelude.{◌≡◌, ℕ, ◌≤◌, List, map, length, Ok}
 use Rattle.std.specs.List.{AllByRecursion}
-use Rattle.plc_base.specs.Limits.{largest_file}
+use Rattle.plc_base.specs.FileSizes.{largest_file}
 use Rattle.plc_lex.specs.declared.token.Token.{Token}
 use Rattle.plc_lex.specs.declared.token.TokenKind.{TokenKind}
-use Rattle.plc_lex.specs.Spelling.{IsKind, Spells}
+use Rattle.plc_lex.specs.Spelling.{Spells}
+use Rattle.plc_lex.specs.Stops.{IsKind}
 use Rattle.plc_lang.specs.declared.syntax.Op.{Op}
 use Rattle.plc_lang.specs.Statements.{Statement, One, Atomic, Call, If, Choose, Loop, Break, Return, Skip, Label}
 use Rattle.plc_lang.specs.Statements.{Statements, Empty, Then, Blocks, NoBlock, And}

@@ -4,7 +4,7 @@ use Rattle.plc_lex.specs.declared.token.TokenKind.{TokenKind}
 use Rattle.plc_lex.specs.declared.token.TokenKind.TheVariants.{Word, Name, Number, Symbol}
 use Rattle.plc_lex.specs.declared.token.Symbol.{Symbol as Punctuation}
 use Rattle.plc_lex.specs.declared.token.Symbol.TheVariants as symbols
-use Rattle.plc_lex.specs.Characters.{word_text, symbol_text}
+use Rattle.plc_lex.specs.Texts.{word_text, symbol_text}
 use Rattle.plc_syntax.specs.Trees.{file_tokens}
 use Rattle.plc_parse.specs.declared.unit.Unit.{Unit as FileUnit}
 use Rattle.plc_print.specs.Canonical.{canonical_tree}

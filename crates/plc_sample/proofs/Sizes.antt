@@ -2,7 +2,8 @@
 use Rattle.std.proofs.Common.{◌≡◌, ◌≤◌, ◌*◌, ◌==◌, ℕ, suc, zero, Bool, true, false, List, [], ◌∷◌, ◌++◌, length, refl, sym, subst, arith}
 use Rattle.std.proofs.lemmas.List.{length-append}
 use Rattle.std.proofs.lemmas.Fmt.{length-decimal-le_succ}
-use Rattle.plc_base.specs.Limits.{largest_file, most_copies}
+use Rattle.plc_base.specs.FileSizes.{largest_file}
+use Rattle.plc_base.specs.Bounds.{most_copies}
 use Rattle.plc_lex.specs.Spelling.{next_line}
 use Rattle.plc_sample.specs.Sample.{declarations, operations, invariants, clauses, ending, numbered_byte, numbered, copies, whole_text, kept_byte, without_from}
 

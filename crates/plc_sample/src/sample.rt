@@ -1,9 +1,10 @@
 // The text of a sample, whole or without one line.
 ghost use Rattle.std.specs.Prelude.{◌≡◌, ◌≤◌, ◌+◌, ◌++◌, IfOk, OnOk, length};
-ghost use Rattle.plc_base.specs.Limits.{largest_file, most_copies};
+ghost use Rattle.plc_base.specs.FileSizes.{largest_file};
+ghost use Rattle.plc_base.specs.Bounds.{most_copies};
 ghost use Rattle.plc_sample.specs.Numbers.{sample_lines};
 ghost use Rattle.plc_sample.specs.Sample.{whole_text, kept_byte, without_from, sample_text};
-ghost use Rattle.plc_lex.specs.Spelling.{line_feeds};
+ghost use Rattle.plc_lex.specs.Stops.{line_feeds};
 ghost use Rattle.plc_sample.specs.Sample.{lines_out};
 
 use crate::numbering::push_copies;

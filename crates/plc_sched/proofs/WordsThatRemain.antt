@@ -7,7 +7,7 @@ use Rattle.std.specs.Option.{is_none}
 use Rattle.std.proofs.lemmas.List.{length-map}
 use Rattle.std.proofs.lemmas.List.Elements.{All-head, All-tail}
 use Rattle.std.proofs.lemmas.List.Splits.{length-slice_split}
-use Rattle.plc_base.specs.Limits.{most_addresses, most_threads}
+use Rattle.plc_base.specs.Bounds.{most_addresses, most_threads}
 use Rattle.plc_sched.specs.declared.words.Words.{Words}
 use Rattle.plc_sched.specs.Entries.{head_words}
 use Rattle.plc_sched.specs.Numbers.{most_arguments}

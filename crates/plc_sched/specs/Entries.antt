@@ -3,7 +3,8 @@ use Rattle.std.specs.Prelude.{◌≡◌, ◌<◌, ◌≤◌, ◌&&◌, ◌^◌, 
 use Rattle.std.specs.Prelude.{List, [], ◌∷◌, length, map, codes, nat_le, Option, Some, None, All}
 use Rattle.std.specs.List.{list_all, join_with_byte}
 use Rattle.std.specs.Fmt.{decimal}
-use Rattle.plc_base.specs.Limits.{most_name_bytes, most_threads, most_addresses, greatest_place}
+use Rattle.plc_base.specs.Limits.{most_name_bytes}
+use Rattle.plc_base.specs.Bounds.{most_threads, most_addresses, greatest_place}
 use Rattle.plc_lex.specs.Characters.{is_letter, in_name}
 use Rattle.plc_sched.specs.declared.schedule.Entry.{Entry}
 use Rattle.plc_sched.specs.declared.schedule.Entry.TheVariants.{Start, Step, Return, Tick}

@@ -14,7 +14,7 @@ use Rattle.plc_lex.specs.declared.token.TokenKind.TheVariants.{Word, Name, Numbe
 use Rattle.plc_lex.specs.declared.token.Keyword.{Keyword}
 use Rattle.plc_lex.specs.declared.token.Symbol.{Symbol as Punctuation}
 use Rattle.plc_lex.specs.Characters.{keyword_of, keywords}
-use Rattle.plc_lex.specs.Spelling.{IsKind, IsName}
+use Rattle.plc_lex.specs.Stops.{IsKind, IsName}
 use Rattle.plc_syntax.specs.Trees.{Text, Placed, Piece, Pieces, plain, token_at, word, symbol, name, numeral}
 use Rattle.plc_syntax.specs.Trees.{from_place, placed_then, kinds_of, AreInPlace}
 use Rattle.plc_syntax.specs.Syntax.{Spelling, AreOf}

@@ -6,6 +6,7 @@ pub mod Forms
 pub mod Fronts
 pub mod Marks
 pub mod Nesting
+pub mod Stops
 pub mod Syntax
 pub mod Trees
 pub mod Views

@@ -9,7 +9,7 @@ use Rattle.plc_lex.specs.declared.token.TokenKind.{TokenKind}
 use Rattle.plc_lex.specs.declared.token.TokenKind.TheVariants.{Word, Symbol}
 use Rattle.plc_lex.specs.declared.token.Keyword.TheVariants.{Atomic}
 use Rattle.plc_lex.specs.declared.token.Symbol.TheVariants.{OpenBrace, CloseBrace}
-use Rattle.plc_syntax.specs.Syntax.{BeginsFile, FaultAt}
+use Rattle.plc_syntax.specs.Stops.{BeginsFile, FaultAt}
 
 -- how many blocks may stand within one another
 abbrev pub nesting_limit : ℕ
@@ -42,18 +42,3 @@ pub record TooDeepAt (ts : List TokenKind) (place : ℕ) : Type 0 where
 -- no block stands too deep
 abbrev pub NoneTooDeep : List TokenKind → Type 0
 NoneTooDeep ts = (place : ℕ) → TooDeepAt ts place → ⊥
-
--- no block stands too deep before a place
-abbrev pub NoneTooDeepBefore : List TokenKind → ℕ → Type 0
-NoneTooDeepBefore ts place = (lesser : ℕ) → lesser < place → TooDeepAt ts lesser → ⊥
-
--- the tokens stop being a file's at this place, and before it no block stands too deep
-pub record SyntaxFaultAt (ts : List TokenKind) (place : ℕ) : Type 0 where
-  pub fault : FaultAt ts place
-  pub shallow : NoneTooDeepBefore ts place
-
--- the first block that stands too deep, where the tokens up to its brace still begin a file
-pub record NestingFaultAt (ts : List TokenKind) (place : ℕ) : Type 0 where
-  pub deep : TooDeepAt ts place
-  pub shallow : NoneTooDeepBefore ts place
-  pub goes_on : BeginsFile (take (place + 1) ts)

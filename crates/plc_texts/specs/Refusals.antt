@@ -1,7 +1,7 @@
 -- The texts of refusals. Each line ends with a line feed.
 use Rattle.std.specs.Prelude.{ℕ, List, [], ◌++◌, codes, decimal}
 use Rattle.plc_base.specs.declared.limits.What1.{What1}
-use Rattle.plc_base.specs.Limits.{limit_name}
+use Rattle.plc_base.specs.Bounds.{limit_name}
 use Rattle.plc_lex.specs.declared.fault.LexFault.{LexFault}
 use Rattle.plc_lex.specs.declared.fault.LexFault.TheVariants.{BadByte, LongName, BadNumber, Memory as LexMemory}
 use Rattle.plc_scope.specs.declared.fault.ParseFault.{ParseFault}

@@ -3,7 +3,7 @@ use Rattle.std.proofs.Common.{inr, ℕ, List, Result, Ok, subst}
 use Rattle.std.specs.Prelude.{IfOk}
 use Rattle.plc_reclaim.specs.Meanings.{Meanings}
 use Rattle.plc_check.specs.declared.judged.Judged.{Judged}
-use Rattle.plc_check.specs.Loading.{IsLoaded}
+use Rattle.plc_check.specs.Answered.{IsLoaded}
 use Rattle.plc_cli.specs.Answer.{IsScheduleAnswered}
 use Rattle.plc_cli.proofs.Answering.{if_ok_from}
 use Rattle.plc_page.specs.declared.page.Page.{Page}

@@ -1,7 +1,8 @@
 -- An outline at the front of tokens is read whatever stands after it, and where none is read none stands there.
 use Rattle.std.proofs.Common.{◌≡◌, ◌∙◌, ◌+◌, ℕ, [], ◌∷◌, map, length, Result, Ok, Err, refl, sym, ap, arith}
 use Rattle.std.specs.Prelude.{IfOk, IfErr}
-use Rattle.plc_syntax.specs.Syntax.{kinds, AreOfOutline, HasOutline}
+use Rattle.plc_syntax.specs.Syntax.{kinds}
+use Rattle.plc_syntax.specs.Stops.{AreOfOutline, HasOutline}
 use Rattle.plc_syntax.specs.Trees.{OutlineTree, plain, outline_then}
 use Rattle.plc_syntax.specs.declared.fault.Fault.{Fault}
 use Rattle.plc_syntax.specs.declared.fault.Fault.TheVariants as faults

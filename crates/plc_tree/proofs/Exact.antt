@@ -6,7 +6,8 @@ use Rattle.std.proofs.lemmas.Bool.{eqb-true}
 use Rattle.std.proofs.lemmas.List.{append_assoc, append-nil, length-map}
 use Rattle.plc_lex.specs.declared.token.TokenKind.{TokenKind}
 use Rattle.plc_lex.specs.declared.token.Token.{Token}
-use Rattle.plc_syntax.specs.Syntax.{kinds, Spelling, spelled, AreOf, AreOfFile, Begin, StopAt}
+use Rattle.plc_syntax.specs.Syntax.{kinds, Spelling, spelled, AreOf, AreOfFile}
+use Rattle.plc_syntax.specs.Stops.{Begin, StopAt}
 use Rattle.plc_syntax.specs.Trees.{FileTree, Pieces, kinds_of, AreInPlace, file_then}
 use Rattle.plc_syntax.specs.declared.fault.Fault.{Fault}
 use Rattle.plc_syntax.specs.declared.fault.Fault.TheVariants as faults

@@ -8,9 +8,11 @@ use Rattle.std.proofs.lemmas.List.{append_assoc, append-nil, take-append-drop, t
 use Rattle.std.proofs.lemmas.Option.{slice_get_within}
 use Rattle.plc_lex.specs.declared.token.TokenKind.{TokenKind}
 use Rattle.plc_syntax.specs.Faults.{SyntaxFaultsAreOne}
-use Rattle.plc_syntax.specs.Nesting.{SyntaxFaultAt, NestingFaultAt}
-use Rattle.plc_syntax.specs.Syntax.{Spelling, spelled, AreOf, AreOfFile, AreOfOutline, AreWhole, Begin, StopAt}
-use Rattle.plc_syntax.specs.Syntax.{IsFile, FaultAt}
+use Rattle.plc_syntax.specs.Stops.{SyntaxFaultAt, NestingFaultAt}
+use Rattle.plc_syntax.specs.Syntax.{Spelling, spelled, AreOf, AreOfFile, AreWhole}
+use Rattle.plc_syntax.specs.Stops.{AreOfOutline, Begin, StopAt}
+use Rattle.plc_syntax.specs.Syntax.{IsFile}
+use Rattle.plc_syntax.specs.Stops.{FaultAt}
 use Rattle.plc_syntax.specs.Trees.{FileTree, OutlineTree, plain, kinds_of, AreInPlace, file_then, file_tokens}
 use Rattle.plc_syntax.specs.Trees.{outline_then}
 use Rattle.plc_syntax.specs.Forms.{Read}

@@ -1,8 +1,10 @@
 -- Of the answers one holds, at one place: so each comes exactly where its fact holds, or memory ran out.
 use Rattle.std.proofs.Common.{◌≡◌, ℕ, List, Result, Ok, Err, refl, ap, sym, subst, arith, inl, inr}
 use Rattle.plc_lex.specs.declared.token.TokenKind.{TokenKind}
-use Rattle.plc_syntax.specs.Nesting.{NoneTooDeep, SyntaxFaultAt, NestingFaultAt}
-use Rattle.plc_syntax.specs.Syntax.{IsFile, FaultAt}
+use Rattle.plc_syntax.specs.Nesting.{NoneTooDeep}
+use Rattle.plc_syntax.specs.Stops.{SyntaxFaultAt, NestingFaultAt}
+use Rattle.plc_syntax.specs.Syntax.{IsFile}
+use Rattle.plc_syntax.specs.Stops.{FaultAt}
 use Rattle.plc_tree.specs.declared.fault.SyntaxFault.{SyntaxFault}
 use Rattle.plc_tree.specs.declared.fault.SyntaxFault.TheVariants.{Syntax, Nesting, Memory}
 use Rattle.plc_tree.specs.Answers.{IsFirstTooDeep, FaultsUpTo}

@@ -1,7 +1,7 @@
 -- How clauses say what an answer is due to, whichever tree it is.
 use Rattle.std.specs.Prelude.{◌≡◌, ◌⊎◌, ◌+◌, ℕ, List, Result, Ok, Err}
 use Rattle.plc_lex.specs.declared.token.TokenKind.{TokenKind}
-use Rattle.plc_syntax.specs.Syntax.{OutlineFaultAt}
+use Rattle.plc_syntax.specs.Stops.{OutlineFaultAt}
 use Rattle.plc_syntax.specs.declared.fault.Fault.{Fault}
 use Rattle.plc_syntax.specs.declared.fault.Fault.TheVariants as faults
 

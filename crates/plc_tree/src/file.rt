@@ -3,7 +3,8 @@
 // its brace and read. A fault at or before the brace is the fault of the syntax; with a fault after it
 // or a tree the tokens up to the brace begin a file. So no reader of forms counts blocks.
 ghost use Rattle.std.specs.Prelude.{◌≡◌, ◌<◌, ◌^◌, ℕ, length, IfOk, IfErr};
-ghost use Rattle.plc_syntax.specs.Nesting.{NoneTooDeep, SyntaxFaultAt, NestingFaultAt};
+ghost use Rattle.plc_syntax.specs.Nesting.{NoneTooDeep};
+ghost use Rattle.plc_syntax.specs.Stops.{SyntaxFaultAt, NestingFaultAt};
 ghost use Rattle.plc_syntax.specs.Syntax.{kinds, AreOfFile, IsFile};
 ghost use Rattle.plc_syntax.specs.Answers.{Gives};
 ghost use Rattle.plc_tree.specs.Forms.{struct_of, heading_of, file_of};

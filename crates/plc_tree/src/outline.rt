@@ -1,6 +1,7 @@
 // Items, and the outline.
 ghost use Rattle.std.specs.Prelude.{◌≡◌, ◌+◌, length, IfOk, IfErr};
-ghost use Rattle.plc_syntax.specs.Syntax.{kinds, AreOfOutline};
+ghost use Rattle.plc_syntax.specs.Syntax.{kinds};
+ghost use Rattle.plc_syntax.specs.Stops.{AreOfOutline};
 ghost use Rattle.plc_syntax.specs.Answers.{Gives};
 ghost use Rattle.plc_tree.specs.Forms.{over_of, at_of, item_of, outline_tail_of, outline_of, outlined_of};
 ghost use Rattle.plc_tree.specs.FormViews.{item_tree, outline_tree, outlined_tree};

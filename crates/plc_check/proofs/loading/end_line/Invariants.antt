@@ -1,5 +1,5 @@
 use Rattle.std.proofs.Common.{◌≡◌, ◌≤◌, ◌+◌, drop}
-use Rattle.plc_lex.specs.Spelling.{line_feeds}
+use Rattle.plc_lex.specs.Stops.{line_feeds}
 use Rattle.plc_check.proofs.loading.end_line.Given as goal
 
 abbrev pub invariant-loop-byte : goal.invariant-loop-byte

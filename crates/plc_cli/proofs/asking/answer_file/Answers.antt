@@ -1,5 +1,5 @@
 use Rattle.std.proofs.Common.{inl, subst}
-use Rattle.plc_check.specs.Loading.{judged_of}
+use Rattle.plc_check.specs.Answered.{judged_of}
 use Rattle.plc_cli.specs.Files.{IsAnsweredFile}
 use Rattle.plc_cli.specs.Reads.{IsContentOf}
 use Rattle.plc_cli.proofs.Answering.{if_found}

@@ -2,7 +2,7 @@ use Rattle.std.proofs.Common.{◌≡◌, ◌∙◌, Err, ap, refl}
 use Rattle.plc_tree.specs.declared.fault.SyntaxFault.TheVariants as syntax
 use Rattle.plc_tree.specs.FileViews.{file_tree}
 use Rattle.plc_scope.specs.declared.fault.ParseFault.TheVariants as faults
-use Rattle.plc_parse.specs.Units.{no_file, too_deep}
+use Rattle.plc_parse.specs.Faults.{no_file, too_deep}
 use Rattle.plc_parse.proofs.Answering.{unit_is, fault_is, no_other_fault, fits_of, named_of, sorted_of, observer_of}
 use Rattle.plc_parse.proofs.Answering.{outline_of}
 use Rattle.plc_parse.proofs.reading.parse.Goals as goal
