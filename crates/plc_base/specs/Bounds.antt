@@ -1,9 +1,9 @@
 -- The words by which limits are told, and what bounds replays and samples.
 use Rattle.std.specs.Prelude.{ℕ, List, codes}
 use Rattle.plc_base.specs.declared.limits.What1.{What1}
-use Rattle.plc_base.specs.declared.limits.What1.TheVariants.{Fields, Shared, Calls, Ghosts, Lines, Values}
-use Rattle.plc_base.specs.declared.limits.What1.TheVariants.{Ops, Locals, Labels, Prims, News, Nesting}
-use Rattle.plc_base.specs.declared.limits.What1.TheVariants.{Invariants, Items, Literals, Obligations, Clauses, Points}
+use Rattle.plc_base.specs.declared.limits.What1.TheVariants.{Fields, Shared, Calls, Ghosts, Lines, Values, Ops, Locals}
+use Rattle.plc_base.specs.declared.limits.What1.TheVariants.{Labels, Prims, News, Nesting, Invariants, Items, Literals}
+use Rattle.plc_base.specs.declared.limits.What1.TheVariants.{Obligations, Clauses, Points}
 
 -- the word by which a limit is told
 abbrev pub limit_name : What1 → List ℕ

@@ -1,6 +1,5 @@
 -- How bytes are answered: with what is judged of the file that they spell, or with their fault.
-use Rattle.std.specs.Prelude.{◌≡◌, ◌≢◌, ◌⊎◌, ℕ, ◌<◌, ◌≤◌, ◌+◌, List, length, get_or}
-use Rattle.std.specs.Prelude.{Option, Some, None, Result, Ok, Err}
+use Rattle.std.specs.Prelude.{◌≡◌, ◌≢◌, ◌⊎◌, ℕ, ◌<◌, ◌+◌, List, length, get_or, Option, Some, None, Result, Ok, Err}
 use Rattle.plc_base.specs.Limits.{most}
 use Rattle.plc_base.specs.declared.limits.What1.{What1}
 use Rattle.plc_base.specs.declared.limits.What1.TheVariants as limits
@@ -17,7 +16,7 @@ use Rattle.plc_parse.specs.Units.{lines_of, IsUnitOf}
 use Rattle.plc_parse.specs.Faults.{IsFaultOf}
 use Rattle.plc_flow.specs.Lowering.{made_of, flow_of, most_points}
 use Rattle.plc_oblig.specs.Obligations.{obligations}
-use Rattle.plc_oblig.specs.Outlines.{HasFewObligations, HasSmallSets, HasLargeSet}
+use Rattle.plc_oblig.specs.Outlines.{HasFewObligations, HasLargeSet}
 use Rattle.plc_auto.specs.Schemes.{schemes_of}
 use Rattle.plc_check.specs.declared.judged.Judged.{Judged}
 use Rattle.plc_check.specs.declared.judged.LoadFault.{LoadFault}

@@ -1,25 +1,17 @@
 -- Which file bytes spell.
-use Rattle.std.specs.Prelude.{◌≡◌, ◌≢◌, ◌⊎◌, ℕ, ◌<◌, ◌≤◌, ◌+◌, List, length, get_or}
-use Rattle.std.specs.Prelude.{Option, Some, None, Result, Ok, Err}
-use Rattle.plc_base.specs.Limits.{most}
+use Rattle.std.specs.Prelude.{ℕ, ◌≤◌, List}
 use Rattle.plc_base.specs.declared.limits.What1.{What1}
 use Rattle.plc_base.specs.declared.limits.What1.TheVariants as limits
 use Rattle.plc_lex.specs.declared.token.Token.{Token}
 use Rattle.plc_lex.specs.declared.fault.LexFault.{LexFault}
 use Rattle.plc_lex.specs.declared.fault.LexFault.TheVariants as lex
 use Rattle.plc_lex.specs.Spelling.{AreTokensOf}
-use Rattle.plc_lex.specs.Stops.{line_feeds}
-use Rattle.plc_lex.specs.Refused.{StopsWith}
 use Rattle.plc_scope.specs.declared.fault.ParseFault.{ParseFault}
 use Rattle.plc_scope.specs.declared.fault.ParseFault.TheVariants as parse
 use Rattle.plc_parse.specs.declared.unit.Unit.{Unit as FileUnit}
-use Rattle.plc_parse.specs.Units.{lines_of, IsUnitOf}
-use Rattle.plc_parse.specs.Faults.{IsFaultOf}
+use Rattle.plc_parse.specs.Units.{IsUnitOf}
 use Rattle.plc_flow.specs.Lowering.{made_of, flow_of, most_points}
-use Rattle.plc_oblig.specs.Obligations.{obligations}
-use Rattle.plc_oblig.specs.Outlines.{HasFewObligations, HasSmallSets, HasLargeSet}
-use Rattle.plc_auto.specs.Schemes.{schemes_of}
-use Rattle.plc_check.specs.declared.judged.Judged.{Judged}
+use Rattle.plc_oblig.specs.Outlines.{HasFewObligations, HasSmallSets}
 use Rattle.plc_check.specs.declared.judged.LoadFault.{LoadFault}
 use Rattle.plc_check.specs.declared.judged.LoadFault.TheVariants as faults
 

@@ -8,8 +8,8 @@ ghost use Rattle.plc_lex.specs.Spelling.{AreTokensOf};
 ghost use Rattle.plc_lex.specs.Stops.{line_feeds};
 ghost use Rattle.plc_parse.specs.Fit.{UnitFits};
 ghost use Rattle.plc_auto.specs.Schemes.{schemes_of};
-ghost use Rattle.plc_check.specs.Refusals.{lex_refusal, parse_refusal, flow_refusal, unplaced_refusal};
-ghost use Rattle.plc_check.specs.Refusals.{IsLowered, IsJudgedOf};
+ghost use Rattle.plc_check.specs.Refusals.{lex_refusal, parse_refusal, flow_refusal, unplaced_refusal, IsLowered};
+ghost use Rattle.plc_check.specs.Refusals.{IsJudgedOf};
 
 use crate::judged::{Judged, LoadFault};
 use crate::limits::check_limits;

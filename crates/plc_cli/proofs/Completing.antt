@@ -18,8 +18,8 @@ use Rattle.plc_cli.specs.Reads.{IsUnread, IsDueForFile, IsDueForPair}
 use Rattle.plc_cli.specs.Locations.{IsLocationOf}
 use Rattle.plc_cli.specs.Requests.{Request, Check, Certify, Print, Verify, Replay, Sample, Suggest, Locate}
 use Rattle.plc_cli.specs.Statuses.{unread, unwritten, no_memory}
-use Rattle.plc_cli.proofs.Statuses.{check_low, certify_low, print_low, verify_low, replay_low, sample_low}
-use Rattle.plc_cli.proofs.Statuses.{suggest_low, locate_low}
+use Rattle.plc_cli.proofs.Statuses.{check_low, certify_low, print_low, verify_low, replay_low, sample_low, suggest_low}
+use Rattle.plc_cli.proofs.Statuses.{locate_low}
 
 -- ---- what is told of one file
 

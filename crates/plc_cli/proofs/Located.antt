@@ -32,8 +32,7 @@ use Rattle.plc_check.specs.Verdicts.{IsVerdictOn}
 use Rattle.plc_check.proofs.Fitting.{all_files_fit}
 use Rattle.plc_cli.specs.Answer.{IsDueFor, IsWritten, Outcome}
 use Rattle.plc_cli.specs.Locations.{AreClaimsAnswered, IsAnsweredWith, IsLocationAnswered, IsLocationOf, AreExtended}
-use Rattle.plc_cli.specs.Locations.{extended_of}
-use Rattle.plc_cli.specs.Locations.{IsLocatedProgram, IsLocatedPair, LocatedRuns}
+use Rattle.plc_cli.specs.Locations.{extended_of, IsLocatedProgram, IsLocatedPair, LocatedRuns}
 use Rattle.plc_cli.specs.Reads.{IsDueForPair}
 use Rattle.plc_cli.specs.Requests.{Request, Locate}
 use Rattle.plc_cli.specs.Statuses.{holds}

@@ -17,7 +17,8 @@ use Rattle.plc_suggest.specs.declared.suggestion.Suggestion.{Suggestion}
 use Rattle.plc_suggest.specs.declared.suggestion.Suggestion.TheVariants.{Found, Insufficient}
 use Rattle.plc_at.specs.declared.claim.LocationClaim.{LocationClaim}
 use Rattle.plc_check.specs.Answered.{judged_of}
-use Rattle.plc_cli.specs.Certificates.{IsCertifiedAs, IsCertificateOf, IsCertificateJudged, IsCertificateAnswered, IsVerificationOf, certified_status}
+use Rattle.plc_cli.specs.Certificates.{IsCertifiedAs, IsCertificateOf, IsCertificateJudged, IsCertificateAnswered}
+use Rattle.plc_cli.specs.Certificates.{IsVerificationOf, certified_status}
 use Rattle.plc_cli.specs.Files.{IsAnsweredFile, IsTold, IsJudgedAs, IsAnswerTo, IsPrintedAs, IsPrintOf}
 use Rattle.plc_cli.specs.Samples.{IsSampledAs, IsSampleAnswer}
 use Rattle.plc_sample.specs.Sample.{sample_text}

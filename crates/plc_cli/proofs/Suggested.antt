@@ -19,8 +19,7 @@ use Rattle.plc_cli.specs.Reads.{IsGivenFile, IsDueForFile}
 use Rattle.plc_cli.specs.Requests.{Request, Suggest}
 use Rattle.plc_cli.specs.Statuses.{holds, fails, unwritten, no_memory}
 use Rattle.plc_cli.specs.Suggestions.{IsSuggestionAnswered, IsSuggestionOf, suggestion_status, suggestion_text}
-use Rattle.plc_cli.specs.Suggestions.{AreSuggested, HasNoTypingByClaims}
-use Rattle.plc_cli.specs.Suggestions.{Suggested}
+use Rattle.plc_cli.specs.Suggestions.{AreSuggested, HasNoTypingByClaims, Suggested}
 use Rattle.plc_cli.proofs.Judging.{stuck_or_typed}
 use Rattle.plc_cli.proofs.TwoReads.{told_is, unread_status}
 

@@ -1,11 +1,12 @@
 -- One read, and two, one after the other: what is known before the first and after the last.
-use Rattle.std.proofs.Common.{◌≡◌, ◌<◌, inl, inr, ℕ, List, [], ◌∷◌, ◌++◌, Option, Some, None, length, ap, ◌∙◌, subst, arith, append_assoc, append-nil}
+use Rattle.std.proofs.Common.{◌≡◌, ◌<◌, inl, inr, ℕ, List, [], ◌∷◌, ◌++◌, Option, Some, None, length, ap, ◌∙◌, subst}
+use Rattle.std.proofs.Common.{arith, append_assoc, append-nil}
 use Rattle.std.specs.Prelude.{IfSome}
 use Rattle.plc_base.specs.FileSizes.{largest_file}
 use Rattle.plc_outside.specs.Known.{KnownFiles}
 use Rattle.plc_outside.specs.Reading.{Reading}
-use Rattle.plc_cli.specs.Reads.{FilesAreKept, NoFaultBut, Only, Either, reading}
-use Rattle.plc_cli.specs.Reads.{IsUnread, IsUnreadPair, IsSecondUnread, IsGivenPair, IsFound}
+use Rattle.plc_cli.specs.Reads.{FilesAreKept, NoFaultBut, Only, Either, reading, IsUnread, IsUnreadPair, IsSecondUnread}
+use Rattle.plc_cli.specs.Reads.{IsGivenPair, IsFound}
 use Rattle.plc_cli.specs.Statuses.{unread}
 
 -- bytes that a read gave, where the content is told

@@ -1,6 +1,5 @@
 -- The status and the text that are due for words and files.
-use Rattle.std.specs.Prelude.{◌≡◌, ◌≢◌, ◌⊎◌, ◌<◌, ℕ, List}
-use Rattle.std.specs.Prelude.{[], length, Option, Some, None, slice_get}
+use Rattle.std.specs.Prelude.{◌≡◌, ◌≢◌, ◌⊎◌, ◌<◌, ℕ, List, [], length, Option, Some, None, slice_get}
 use Rattle.plc_base.specs.FileSizes.{largest_file, largest_schedule, largest_certificate}
 use Rattle.plc_outside.specs.Known.{KnownFiles, KnownSink}
 use Rattle.plc_outside.specs.Outside.{Rose, Appends, AppendsPart}

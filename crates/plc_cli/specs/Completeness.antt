@@ -1,7 +1,6 @@
 -- Completeness: where the outside has no fault, the answer is due to the contents of the files alone.
-use Rattle.std.specs.Prelude.{◌≡◌, ◌≢◌, ◌⊎◌, ◌<◌, ◌≤◌, ℕ}
-use Rattle.std.specs.Prelude.{List, [], ◌∷◌, length, slice_get, All, Contains}
-use Rattle.std.specs.Prelude.{Option, None, Some, IsSome, IfSome, IsSomeAnd}
+use Rattle.std.specs.Prelude.{◌≡◌, ◌≢◌, ◌⊎◌, ◌<◌, ◌≤◌, ℕ, List, [], ◌∷◌, length, slice_get, All, Contains, Option, None}
+use Rattle.std.specs.Prelude.{Some, IsSome, IfSome, IsSomeAnd}
 use Rattle.plc_base.specs.FileSizes.{largest_file, largest_schedule, largest_certificate}
 use Rattle.plc_outside.specs.FixedBytes as fixed
 use Rattle.plc_outside.specs.HonestFiles as honest

@@ -1,11 +1,13 @@
 -- The line of a token counts the line feeds before it.
-use Rattle.std.proofs.Common.{◌≡◌, ℕ, ◌+◌, ◌==◌, Bool, true, false, cond, List, ◌∷◌, take, drop, All, refl, sym, ap, ◌∙◌, arith}
+use Rattle.std.proofs.Common.{◌≡◌, ℕ, ◌+◌, ◌==◌, Bool, true, false, cond, List, ◌∷◌, take, drop, All, refl, sym, ap}
+use Rattle.std.proofs.Common.{◌∙◌, arith}
 use Rattle.std.proofs.lemmas.List.{drop-drop}
 use Rattle.std.proofs.lemmas.List.Elements.{All-cons, All-nil}
 use Rattle.std.proofs.lemmas.List.Sums.{sum_by-take-drop}
 use Rattle.plc_lex.specs.declared.token.Token.{Token}
 use Rattle.plc_lex.specs.Characters.{in_comment}
-use Rattle.plc_lex.specs.Spelling.{comment_length, next_line, token_from, Spells, at_end, after_space, after_comment, token}
+use Rattle.plc_lex.specs.Spelling.{comment_length, next_line, token_from, Spells, at_end, after_space, after_comment}
+use Rattle.plc_lex.specs.Spelling.{token}
 use Rattle.plc_lex.specs.Stops.{line_feeds}
 use Rattle.plc_lex.proofs.Pieces.{piece_is, front_free, feeds_cons}
 

@@ -1,5 +1,7 @@
 -- What the token at the front of bytes is, and how long.
-use Rattle.std.proofs.Common.{◌≡◌, ℕ, suc, ◌+◌, ◌<◌, ◌≤◌, ◌^◌, Bool, true, false, cond, ◌&&◌, nat_lt, nat_eq, ◌==◌, List, [], ◌∷◌, length, take, Option, Some, None, Result, Ok, Err, option_map, find, refl, sym, ap, ◌∙◌, subst, arith, ltb-true, ltb-false, eqb-true, length-take}
+use Rattle.std.proofs.Common.{◌≡◌, ℕ, suc, ◌+◌, ◌<◌, ◌≤◌, ◌^◌, Bool, true, false, cond, ◌&&◌, nat_lt, nat_eq, ◌==◌}
+use Rattle.std.proofs.Common.{List, [], ◌∷◌, length, take, Option, Some, None, Result, Ok, Err, option_map, find, refl}
+use Rattle.std.proofs.Common.{sym, ap, ◌∙◌, subst, arith, ltb-true, ltb-false, eqb-true, length-take}
 use Rattle.std.specs.List.{prefix_len, starts_with, list_all}
 use Rattle.std.specs.Cmp.Lexicographic.{pointwise}
 use Rattle.std.proofs.lemmas.Bool.{and_parts}
@@ -10,8 +12,10 @@ use Rattle.plc_lex.specs.declared.token.Keyword.{Keyword}
 use Rattle.plc_lex.specs.declared.token.Symbol.{Symbol as SymbolName}
 use Rattle.plc_lex.specs.declared.token.TokenKind.{TokenKind}
 use Rattle.plc_lex.specs.declared.token.TokenKind.TheVariants.{Number, Symbol}
-use Rattle.plc_lex.specs.Characters.{is_letter, is_digit, in_name, keyword_of, symbols_longest_first, symbol_in, symbol_of}
-use Rattle.plc_lex.specs.Spelling.{Refusal, long_name, bad_number, word_of, name_or_word, is_plain, value, name_at, number_at, symbol_or_none, symbol_at, token_at}
+use Rattle.plc_lex.specs.Characters.{is_letter, is_digit, in_name, keyword_of, symbols_longest_first, symbol_in}
+use Rattle.plc_lex.specs.Characters.{symbol_of}
+use Rattle.plc_lex.specs.Spelling.{Refusal, long_name, bad_number, word_of, name_or_word, is_plain, value, name_at}
+use Rattle.plc_lex.specs.Spelling.{number_at, symbol_or_none, symbol_at, token_at}
 use Rattle.plc_lex.specs.Stops.{IsName, IsKind, line_feeds}
 
 -- a token of so many bytes at the front, none of them a line feed

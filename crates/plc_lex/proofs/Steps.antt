@@ -1,16 +1,17 @@
 -- One step of a reader, and steps after one another.
-use Rattle.std.proofs.Common.{◌≡◌, ℕ, ◌+◌, ◌<◌, true, List, [], ◌∷◌, ◌++◌, length, drop, get_or, Ok, sym, subst, append_assoc, append-nil, arith}
+use Rattle.std.proofs.Common.{◌≡◌, ℕ, ◌+◌, ◌<◌, true, List, [], ◌∷◌, ◌++◌, length, drop, get_or, Ok, sym, subst}
+use Rattle.std.proofs.Common.{append_assoc, append-nil, arith}
 use Rattle.plc_lex.specs.declared.token.Token.{Token}
 use Rattle.plc_lex.specs.declared.token.TokenKind.{TokenKind}
 use Rattle.plc_lex.specs.declared.fault.LexFault.{LexFault}
 use Rattle.plc_lex.specs.declared.fault.LexFault.TheVariants.{BadByte, LongName, BadNumber, Memory}
 use Rattle.plc_lex.specs.declared.rest.Rest.{Rest}
 use Rattle.plc_lex.specs.Characters.{is_space}
-use Rattle.plc_lex.specs.Spelling.{token_at, is_comment, comment_length, next_line, Spells, at_end, after_space, after_comment, token}
+use Rattle.plc_lex.specs.Spelling.{token_at, is_comment, comment_length, next_line, Spells, at_end, after_space}
+use Rattle.plc_lex.specs.Spelling.{after_comment, token}
 use Rattle.plc_lex.specs.Stops.{Stops, here, past_space, past_comment, past_token}
 use Rattle.plc_lex.specs.Refused.{StopsWith}
-use Rattle.plc_lex.specs.Reading.{IsFaultAt}
-use Rattle.plc_lex.specs.Reading.{IsAtToken, Reads}
+use Rattle.plc_lex.specs.Reading.{IsFaultAt, IsAtToken, Reads}
 
 pub reads_space : (at line : ℕ) (bytes : List ℕ) (rest : Rest) → 0 < length bytes → is_space (get_or bytes 0 0) ≡ true → rest.bytes.now ≡ drop 1 bytes → rest.at ≡ at + 1 → rest.line ≡ next_line line (get_or bytes 0 0) → Reads at line bytes [] rest
 reads_space at line [] rest some space bytes_is at_is line_is = absurd (omega arith)

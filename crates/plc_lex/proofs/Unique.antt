@@ -1,5 +1,6 @@
 -- A text spells one list of tokens, or stops at one place: what comes next is a function of the bytes.
-use Rattle.std.proofs.Common.{◌≡◌, ℕ, ◌+◌, Bool, true, false, List, [], ◌∷◌, drop, Result, Ok, Err, sym, refl, ap, ◌∙◌, subst, eqb-true}
+use Rattle.std.proofs.Common.{◌≡◌, ℕ, ◌+◌, Bool, true, false, List, [], ◌∷◌, drop, Result, Ok, Err, sym, refl, ap, ◌∙◌}
+use Rattle.std.proofs.Common.{subst, eqb-true}
 use Rattle.std.proofs.lemmas.Bool.{and_parts}
 use Rattle.plc_lex.specs.declared.token.Token.{Token}
 use Rattle.plc_lex.specs.declared.token.TokenKind.{TokenKind}
@@ -7,7 +8,9 @@ use Rattle.plc_lex.specs.Characters.{is_space}
 use Rattle.plc_lex.specs.declared.fault.LexFault.{LexFault}
 use Rattle.plc_lex.specs.declared.fault.LexFault.TheVariants.{BadByte, LongName, BadNumber, Memory}
 use Rattle.plc_lex.specs.Refused.{StopsWith}
-use Rattle.plc_lex.specs.Spelling.{Refusal, bad_byte, long_name, bad_number, token_at, is_blank, is_comment, comment_length, next_line, token_from, Spells, at_end, after_space, after_comment, token}
+use Rattle.plc_lex.specs.Spelling.{Refusal, bad_byte, long_name, bad_number, token_at, is_blank, is_comment}
+use Rattle.plc_lex.specs.Spelling.{comment_length, next_line, token_from, Spells, at_end, after_space, after_comment}
+use Rattle.plc_lex.specs.Spelling.{token}
 use Rattle.plc_lex.specs.Stops.{Stops, here, past_space, past_comment, past_token}
 
 -- what stands at the front: the end, so many bytes up to a line, or a token or its refusal on a line

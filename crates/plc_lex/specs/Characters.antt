@@ -1,9 +1,8 @@
 -- Bytes, and the words and symbols that they spell.
-use Rattle.std.specs.Prelude.{◌==◌, ◌&&◌, ◌||◌, if◌then◌else◌, ℕ, Bool, not, List, [], ◌∷◌}
-use Rattle.std.specs.Prelude.{length, codes, nat_le, nat_eq, Option, option_map, find}
+use Rattle.std.specs.Prelude.{◌==◌, ◌&&◌, ◌||◌, ℕ, Bool, not, List, [], ◌∷◌, length, codes, nat_le, nat_eq, Option}
+use Rattle.std.specs.Prelude.{option_map, find}
 use Rattle.std.specs.List.{starts_with}
 use Rattle.std.specs.Str.{bytes_eq}
-use denote.Enum.Bare.{sameb}
 use Rattle.plc_lex.specs.contracts.token.Keyword as keyword
 use Rattle.plc_lex.specs.contracts.token.Symbol as symbol
 use Rattle.plc_lex.specs.declared.token.Keyword.{Keyword}

@@ -1,7 +1,6 @@
 -- Which tokens bytes spell.
-use Rattle.std.specs.Prelude.{◌≡◌, ◌==◌, ◌<◌, ◌≤◌, ◌&&◌, ◌+◌, ◌*◌, ◌-◌, ◌^◌}
-use Rattle.std.specs.Prelude.{ℕ, Bool, true, false, not, if◌then◌else◌, List, [], ◌∷◌, length, take}
-use Rattle.std.specs.Prelude.{drop, fold, Option, Some, None, Result, Ok, Err, nat_lt, nat_eq, count_by, All}
+use Rattle.std.specs.Prelude.{◌≡◌, ◌==◌, ◌&&◌, ◌+◌, ◌*◌, ◌-◌, ◌^◌, ℕ, Bool, true, false, not, if◌then◌else◌, List, []}
+use Rattle.std.specs.Prelude.{◌∷◌, take, drop, fold, Option, Some, None, Result, Ok, Err, nat_lt, nat_eq}
 use Rattle.std.specs.List.{prefix_len, starts_with}
 use Rattle.plc_base.specs.Limits.{most_name_bytes}
 use Rattle.plc_lex.specs.declared.token.Token.{Token}
@@ -9,8 +8,8 @@ use Rattle.plc_lex.specs.declared.token.TokenKind.{TokenKind}
 use Rattle.plc_lex.specs.declared.token.TokenKind.TheVariants.{Word, Name, Number, Symbol}
 use Rattle.plc_lex.specs.declared.token.Keyword.{Keyword}
 use Rattle.plc_lex.specs.declared.token.Symbol.{Symbol as SymbolName}
-use Rattle.plc_lex.specs.Characters.{is_space, is_letter, is_digit, in_name, in_comment}
-use Rattle.plc_lex.specs.Characters.{comment_opening, keyword_of, symbol_of}
+use Rattle.plc_lex.specs.Characters.{is_space, is_letter, is_digit, in_name, in_comment, comment_opening, keyword_of}
+use Rattle.plc_lex.specs.Characters.{symbol_of}
 
 -- why no token stands at a place
 pub data Refusal : Type 0 where

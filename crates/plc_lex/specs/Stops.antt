@@ -1,16 +1,12 @@
 -- Where bytes spell no token, what stands in a token, and the laws on both.
-use Rattle.std.specs.Prelude.{◌≡◌, ◌==◌, ◌<◌, ◌≤◌, ◌&&◌, ◌+◌, ◌*◌, ◌-◌, ◌^◌}
-use Rattle.std.specs.Prelude.{ℕ, Bool, true, false, not, if◌then◌else◌, List, [], ◌∷◌, length, take}
-use Rattle.std.specs.Prelude.{drop, fold, Option, Some, None, Result, Ok, Err, nat_lt, nat_eq, count_by, All}
-use Rattle.std.specs.List.{prefix_len, starts_with}
+use Rattle.std.specs.Prelude.{◌≡◌, ◌==◌, ◌<◌, ◌≤◌, ◌+◌, ◌^◌, ℕ, Bool, true, false, List, [], ◌∷◌, length, take, drop}
+use Rattle.std.specs.Prelude.{None, Ok, Err, count_by, All}
+use Rattle.std.specs.List.{prefix_len}
 use Rattle.plc_base.specs.Limits.{most_name_bytes}
 use Rattle.plc_lex.specs.declared.token.Token.{Token}
 use Rattle.plc_lex.specs.declared.token.TokenKind.{TokenKind}
 use Rattle.plc_lex.specs.declared.token.TokenKind.TheVariants.{Word, Name, Number, Symbol}
-use Rattle.plc_lex.specs.declared.token.Keyword.{Keyword}
-use Rattle.plc_lex.specs.declared.token.Symbol.{Symbol as SymbolName}
-use Rattle.plc_lex.specs.Characters.{is_space, is_letter, is_digit, in_name, in_comment}
-use Rattle.plc_lex.specs.Characters.{comment_opening, keyword_of, symbol_of}
+use Rattle.plc_lex.specs.Characters.{is_space, is_letter, in_name, keyword_of}
 use Rattle.plc_lex.specs.Spelling.{Refusal, token_at, is_comment, comment_length, is_blank, AreTokensOf}
 
 -- bytes that begin at a place spell tokens up to a place where none stands

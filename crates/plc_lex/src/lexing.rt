@@ -1,13 +1,12 @@
 // A text is read from left to right. After each token all spaces and comments are passed at once,
 // so the loop over tokens meets a token, a fault or the end.
-ghost use Rattle.std.specs.Prelude.{◌≡◌, ◌<◌, ◌≤◌, ◌+◌, ◌∷◌, [], ℕ, List, length};
-ghost use Rattle.std.specs.Prelude.{vec_len, All, IfOk, IfErr, IfSome, IfNone, OnOk, MatchResult};
+ghost use Rattle.std.specs.Prelude.{◌≡◌, ◌<◌, ◌≤◌, ◌+◌, ◌∷◌, [], ℕ, List, length, vec_len, All, IfOk, IfErr, IfSome};
+ghost use Rattle.std.specs.Prelude.{IfNone, OnOk, MatchResult};
 ghost use Rattle.plc_base.specs.FileSizes.{largest_file};
 ghost use Rattle.plc_lex.specs.declared.token.Token.{Token};
 ghost use Rattle.plc_lex.specs.declared.fault.LexFault.TheVariants.{Memory};
 ghost use Rattle.plc_lex.specs.Spelling.{next_line, Refusal, AreTokensOf};
-ghost use Rattle.plc_lex.specs.Stops.{IsToken};
-ghost use Rattle.plc_lex.specs.Stops.{StopsAt, SpellingIsUnique, LinesAreCounted};
+ghost use Rattle.plc_lex.specs.Stops.{IsToken, StopsAt, SpellingIsUnique, LinesAreCounted};
 ghost use Rattle.plc_lex.specs.Refused.{StopsWith};
 ghost use Rattle.plc_lex.specs.Reading.{IsAtToken, Reads};
 

@@ -10,8 +10,8 @@ use Rattle.plc_lang.specs.declared.syntax.Local.{Local}
 use Rattle.plc_lang.specs.declared.syntax.Op.{Op}
 use Rattle.plc_lang.specs.Locals.{locals_of}
 use Rattle.plc_syntax.specs.Trees.{Text, Placed, PlaceTree, PlaceOf, TermTree, PlaceTerm, NullTerm, NumberTerm, MeTerm}
-use Rattle.plc_syntax.specs.Trees.{NoneTerm, FlagTree, RetiredFlag, MarkedFlag, LiteralTree, FlagLiteral}
-use Rattle.plc_syntax.specs.Trees.{NotLiteral, EqualityLiteral, BoundTree, NoBound, AllOf, ClauseTree, Claims, ItemTree}
+use Rattle.plc_syntax.specs.Trees.{NoneTerm, FlagTree, RetiredFlag, MarkedFlag, LiteralTree, FlagLiteral, NotLiteral}
+use Rattle.plc_syntax.specs.Trees.{EqualityLiteral, BoundTree, NoBound, AllOf, ClauseTree, Claims, ItemTree}
 use Rattle.plc_syntax.specs.Trees.{InvariantItem, OverItem, AtItem, OutlineTree, Outlined}
 use Rattle.plc_scope.specs.declared.fault.ParseFault.{ParseFault}
 use Rattle.plc_scope.specs.declared.fault.ParseFault.TheVariants as faults
@@ -48,9 +48,7 @@ in_turn step s (x ∷ xs) = step s x >>= λ t. in_turn step t xs
 -- what is wanted of a name alone, or of a field of a base
 abbrev pub wanted_of : {A : Type 0} → Reach → (Kind → Option A) → (Base → Kind → Option A) → PlaceTree
     → Result A ParseFault
-wanted_of r alone after (PlaceOf n None) = do
-  k ← kind_at r n
-  if_fits n.at (alone k)
+wanted_of r alone after (PlaceOf n None) = kind_at r n >>= λ k. if_fits n.at (alone k)
 wanted_of r alone after (PlaceOf n (Some f)) = do
   b ← base_at r n
   k ← kind_at r f
@@ -88,9 +86,7 @@ if_same_sort wanted tree t = if same_sort t.1 wanted then Ok t.0 else Err (fault
 
 -- the second term of a literal has the sort of the first
 unfoldable pub second_means : Reach → Sort → TermTree → Result Term ParseFault
-second_means r wanted t = do
-  b ← term_means r t
-  if_same_sort wanted t b
+second_means r wanted t = term_means r t >>= λ b. if_same_sort wanted t b
 
 -- ---- literals
 
@@ -100,12 +96,8 @@ pointer_means r p = wanted_of r as_pointer as_pointer_field p
 
 -- a base, or a place that has a mark
 abbrev pub flag_means : Reach → Bool → FlagTree → Result Literal ParseFault
-flag_means r is_so (RetiredFlag n) = do
-  b ← base_at r n
-  Ok (Retired b is_so)
-flag_means r is_so (MarkedFlag p) = do
-  t ← pointer_means r p
-  Ok (Marked t is_so)
+flag_means r is_so (RetiredFlag n) = base_at r n >>= λ b. Ok (Retired b is_so)
+flag_means r is_so (MarkedFlag p) = pointer_means r p >>= λ t. Ok (Marked t is_so)
 
 -- the sides from left to right
 unfoldable pub literal_means : Reach → LiteralTree → Result Literal ParseFault
@@ -123,9 +115,7 @@ counted n at (Err e) = if stands_at at e then Err e else within_limit n limits.L
 
 -- a further literal after those so far
 unfoldable pub literal_step : Reach → List Literal → Placed LiteralTree → Result (List Literal) ParseFault
-literal_step r ls l = do
-  x ← counted (length ls) l.at (literal_means r l.value)
-  Ok (ls ++ x ∷ [])
+literal_step r ls l = counted (length ls) l.at (literal_means r l.value) >>= λ x. Ok (ls ++ x ∷ [])
 
 -- ---- clauses
 
@@ -151,9 +141,7 @@ second_bound s ls bound (Some m) = bound_with s ls bound m
 -- the quantified names of a clause
 unfoldable pub bound_means : Scope → List Local → BoundTree → Result NameList ParseFault
 bound_means s ls NoBound = Ok none_bound
-bound_means s ls (AllOf n m) = do
-  first ← bound_with s ls none_bound n
-  second_bound s ls first m
+bound_means s ls (AllOf n m) = bound_with s ls none_bound n >>= λ first. second_bound s ls first m
 
 -- what stands in a clause of an operation or of an invariant, under these quantified names
 abbrev pub reach : Scope → List Local → Bool → NameList → Reach
@@ -176,9 +164,8 @@ op_named ops (Some i) = position_from (λ (o : Op). o.name == i) 0 ops
 
 -- the operation that a name is; no local is in reach there
 unfoldable pub op_at : Scope → List Op → Placed Text → Result ℕ ParseFault
-op_at s ops n = do
-  k ← known n.at (declared_kind s [] n.value)
-  if_fits n.at (op_named ops (place_of n.value s.names.names))
+op_at s ops n =
+    known n.at (declared_kind s [] n.value) >>= λ k. if_fits n.at (op_named ops (place_of n.value s.names.names))
 
 -- the label with a name's number
 abbrev pub label_named : List ℕ → Option ℕ → Option ℕ
@@ -187,9 +174,7 @@ label_named labels (Some i) = position_from (λ (n : ℕ). n == i) 0 labels
 
 -- a label and the operation in which it stands
 abbrev pub with_op : List (List ℕ) → ℕ → ℕ → Result (ℕ × ℕ) ParseFault
-with_op by_op at label = do
-  o ← if_fits at (op_of_label by_op label)
-  Ok (label, o)
+with_op by_op at label = if_fits at (op_of_label by_op label) >>= λ o. Ok (label, o)
 
 -- the label that a name is, with its operation
 unfoldable pub label_at : Scope → List (List ℕ) → Placed Text → Result (ℕ × ℕ) ParseFault

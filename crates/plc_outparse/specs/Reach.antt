@@ -2,7 +2,6 @@
 -- keep what they stand for.
 use Rattle.std.specs.Prelude.{ℕ, Bool, true, false, List, Option, Some, None, option_and_then, Result}
 use Rattle.plc_base.specs.Names.{NameList, place_of}
-use Rattle.plc_base.specs.declared.ids.FieldId.{FieldId}
 use Rattle.plc_lang.specs.declared.syntax.Local.{Local}
 use Rattle.plc_syntax.specs.Trees.{Text, Placed}
 use Rattle.plc_scope.specs.declared.fault.ParseFault.{ParseFault}
@@ -71,11 +70,7 @@ kind_of r name = kind_or_bound (place_of name r.bound.names) (declared_kind r.sc
 -- what a field may be asked of: a shared pointer, a pointer local, a quantified name
 abbrev pub as_base : Kind → Option Base
 as_base (kinds.Node b) = Some b
-as_base (kinds.Data i) = None
-as_base (kinds.Field f s) = None
-as_base (kinds.Auxiliary g s) = None
-as_base (kinds.Value g v) = None
-as_base kinds.NoValue = None
+as_base _ = None
 
 -- what a name is in a clause, told at the name
 abbrev pub kind_at : Reach → Placed Text → Result Kind ParseFault
@@ -95,10 +90,8 @@ base_term (bases.Bound i) = terms.Bound i
 abbrev pub as_term : Kind → Option (Term × Sort)
 as_term (kinds.Node b) = Some (base_term b, sorts.Node)
 as_term (kinds.Data i) = Some (terms.Local i, sorts.Number)
-as_term (kinds.Field f s) = None
-as_term (kinds.Auxiliary g s) = None
 as_term (kinds.Value g v) = Some (terms.Value g v, sorts.Value g)
-as_term kinds.NoValue = None
+as_term _ = None
 
 -- the place of a pointer that a base alone is; a quantified name is a node, and no place of one
 abbrev pub base_pointer : Base → Option Term
@@ -112,26 +105,11 @@ as_pointer k = option_and_then base_pointer (as_base k)
 
 -- the term that a name is after a base and a dot, with its sort
 abbrev pub as_field : Base → Kind → Option (Term × Sort)
-as_field b (kinds.Node c) = None
-as_field b (kinds.Data i) = None
 as_field b (kinds.Field f s) = Some (terms.FieldOf b f, s)
 as_field b (kinds.Auxiliary g s) = Some (terms.GhostOf b g, s)
-as_field b (kinds.Value g v) = None
-as_field b kinds.NoValue = None
-
--- the place of a pointer that a field of a base is, by the sort of what it holds
-abbrev pub field_pointer : Base → FieldId → Sort → Option Term
-field_pointer b f sorts.Node = Some (terms.FieldOf b f)
-field_pointer b f sorts.Number = None
-field_pointer b f sorts.Thread = None
-field_pointer b f (sorts.Value g) = None
-field_pointer b f sorts.Truth = None
+as_field b _ = None
 
 -- the place of a pointer that a name is after a base and a dot
 abbrev pub as_pointer_field : Base → Kind → Option Term
-as_pointer_field b (kinds.Node c) = None
-as_pointer_field b (kinds.Data i) = None
-as_pointer_field b (kinds.Field f s) = field_pointer b f s
-as_pointer_field b (kinds.Auxiliary g s) = None
-as_pointer_field b (kinds.Value g v) = None
-as_pointer_field b kinds.NoValue = None
+as_pointer_field b (kinds.Field f sorts.Node) = Some (terms.FieldOf b f)
+as_pointer_field b _ = None

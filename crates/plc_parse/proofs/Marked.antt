@@ -17,19 +17,19 @@ use Rattle.plc_lang.specs.declared.syntax.Op.{Op}
 use Rattle.plc_lang.specs.Marks.{speaks_of_marks, speak_of_marks, condition_uses_marks, statement_uses_marks}
 use Rattle.plc_lang.specs.Marks.{statements_use_marks, blocks_use_marks}
 use Rattle.plc_lang.specs.Statements.{Statement, Statements, Blocks}
-use Rattle.plc_syntax.specs.Trees.{Text, Placed, PlaceTree, PlaceOf, AtomTree, NullAtom, NumberAtom, NameAtom, ValueTree}
-use Rattle.plc_syntax.specs.Trees.{NullValue, NewValue, NumberValue, MarkValue, UnmarkValue, PlaceValue}
-use Rattle.plc_syntax.specs.Trees.{SetTree, SetName, SetField, RefreshTree, RefreshName, RefreshField}
-use Rattle.plc_syntax.specs.Trees.{GhostSetTree, SetGhost, InitialTree, InitialSet, InitialGhost, Comparison}
-use Rattle.plc_syntax.specs.Trees.{SameAs, OtherThan, LessThan, NotLessThan, TestTree, MarkedTest, UnmarkedTest}
-use Rattle.plc_syntax.specs.Trees.{Compares, ConditionTree, TestCondition, RefreshCondition, CasCondition}
-use Rattle.plc_syntax.specs.Trees.{PrimitiveTree, SetPrimitive, RefreshPrimitive, GhostPrimitive, ActivePrimitive}
-use Rattle.plc_syntax.specs.Trees.{AssumePrimitive, SkipPrimitive, StatementTree, PrimitiveStatement, AtomicStatement}
-use Rattle.plc_syntax.specs.Trees.{CallStatement, IfStatement, ChooseStatement, LoopStatement, BreakStatement}
-use Rattle.plc_syntax.specs.Trees.{ReturnStatement, LabelStatement, BlockTree, NoStatement, Then, ElseTree, NoElse}
-use Rattle.plc_syntax.specs.Trees.{ElseBlock, OrTree, NoOr, OrBlock, OpTree, Operates, OutlineTree, FileTree}
-use Rattle.plc_syntax.specs.Marks.{value_uses_marks, set_uses_marks, initial_uses_marks}
-use Rattle.plc_syntax.specs.Marks.{init_uses_marks, test_uses_marks, condition_tree_uses_marks, primitive_uses_marks}
+use Rattle.plc_syntax.specs.Trees.{Text, Placed, PlaceTree, PlaceOf, AtomTree, NullAtom, NumberAtom, NameAtom}
+use Rattle.plc_syntax.specs.Trees.{ValueTree, NullValue, NewValue, NumberValue, MarkValue, UnmarkValue, PlaceValue}
+use Rattle.plc_syntax.specs.Trees.{SetTree, SetName, SetField, RefreshTree, RefreshName, RefreshField, GhostSetTree}
+use Rattle.plc_syntax.specs.Trees.{SetGhost, InitialTree, InitialSet, InitialGhost, Comparison, SameAs, OtherThan}
+use Rattle.plc_syntax.specs.Trees.{LessThan, NotLessThan, TestTree, MarkedTest, UnmarkedTest, Compares, ConditionTree}
+use Rattle.plc_syntax.specs.Trees.{TestCondition, RefreshCondition, CasCondition, PrimitiveTree, SetPrimitive}
+use Rattle.plc_syntax.specs.Trees.{RefreshPrimitive, GhostPrimitive, ActivePrimitive, AssumePrimitive, SkipPrimitive}
+use Rattle.plc_syntax.specs.Trees.{StatementTree, PrimitiveStatement, AtomicStatement, CallStatement, IfStatement}
+use Rattle.plc_syntax.specs.Trees.{ChooseStatement, LoopStatement, BreakStatement, ReturnStatement, LabelStatement}
+use Rattle.plc_syntax.specs.Trees.{BlockTree, NoStatement, Then, ElseTree, NoElse, ElseBlock, OrTree, NoOr, OrBlock}
+use Rattle.plc_syntax.specs.Trees.{OpTree, Operates, OutlineTree, FileTree}
+use Rattle.plc_syntax.specs.Marks.{value_uses_marks, set_uses_marks, initial_uses_marks, init_uses_marks}
+use Rattle.plc_syntax.specs.Marks.{test_uses_marks, condition_tree_uses_marks, primitive_uses_marks}
 use Rattle.plc_syntax.specs.Marks.{statement_tree_uses_marks, block_uses_marks, else_uses_marks, or_uses_marks}
 use Rattle.plc_syntax.specs.Marks.{op_uses_marks, outline_tree_uses_marks, outlined_uses_marks, file_tree_uses_marks}
 use Rattle.plc_syntax.proofs.Marked.{marks_spelled}
@@ -41,13 +41,13 @@ use Rattle.plc_scope.specs.declared.binding.Role.TheVariants.{PointerVariable as
 use Rattle.plc_scope.specs.declared.binding.Role.TheVariants.{DataLocal as data_local, PointerField as pointer_field}
 use Rattle.plc_scope.specs.declared.binding.Role.TheVariants.{DataField as data_field}
 use Rattle.plc_scope.specs.Limits.{stands_at}
-use Rattle.plc_scope.specs.Scope.{first_scope, role_at, declared, pointer_at, pointer_local_at, data_at}
-use Rattle.plc_scope.specs.Scope.{pointer_field_at, data_field_at, auxiliary_at}
+use Rattle.plc_scope.specs.Scope.{first_scope, role_at, declared, role_as, as_pointer, as_pointer_local, as_data}
+use Rattle.plc_scope.specs.Scope.{as_pointer_field, as_data_field, as_auxiliary}
 use Rattle.plc_scope.specs.Primitives.{with_number, pointer_value, data_value, value_into, pointer_atom, atom_into}
 use Rattle.plc_scope.specs.Primitives.{set_means, refresh_from, refresh_name_means, refresh_means, ghost_value_means}
-use Rattle.plc_scope.specs.Primitives.{ghost_set_means, pointer_equality, pointer_test, relation, test_of}
-use Rattle.plc_scope.specs.Primitives.{test_means, pointer_or_null, condition_means, some_primitive}
-use Rattle.plc_scope.specs.Primitives.{primitive_means, initial_means, call_means}
+use Rattle.plc_scope.specs.Primitives.{ghost_set_means, pointer_equality, pointer_test, relation, test_of, test_means}
+use Rattle.plc_scope.specs.Primitives.{pointer_or_null, condition_means, some_primitive, primitive_means, initial_means}
+use Rattle.plc_scope.specs.Primitives.{call_means}
 use Rattle.plc_scope.proofs.Holds.{Has, has_along, next, any, unless, both_err}
 use Rattle.plc_parse.specs.declared.unit.Unit.{Unit as FileUnit}
 use Rattle.plc_outparse.proofs.Marked.{OutlineSpeaks, outline_marked}
@@ -78,11 +78,11 @@ module _ (s : Scope) where
   pointer_value_marked p (NullValue at) = refl
   pointer_value_marked p (NewValue at) = refl
   pointer_value_marked p (NumberValue n) = tt
-  pointer_value_marked p (MarkValue at n) = any (Speaks true) (pointer_at s n) _ (λ q. refl)
-  pointer_value_marked p (UnmarkValue at n) = any (Speaks true) (pointer_at s n) _ (λ q. refl)
-  pointer_value_marked p (PlaceValue (PlaceOf n None)) = any (Speaks false) (pointer_at s n) _ (λ q. refl)
+  pointer_value_marked p (MarkValue at n) = any (Speaks true) (role_as as_pointer s n) _ (λ q. refl)
+  pointer_value_marked p (UnmarkValue at n) = any (Speaks true) (role_as as_pointer s n) _ (λ q. refl)
+  pointer_value_marked p (PlaceValue (PlaceOf n None)) = any (Speaks false) (role_as as_pointer s n) _ (λ q. refl)
   pointer_value_marked p (PlaceValue (PlaceOf n (Some f))) =
-      any (Speaks false) (pointer_at s n) _ (λ q. any (Speaks false) (pointer_field_at s f) _ (λ g. refl))
+      any (Speaks false) (role_as as_pointer s n) _ (λ q. any (Speaks false) (role_as as_pointer_field s f) _ (λ g. refl))
 
   data_value_marked : (x : ℕ) (v : ValueTree) → Has (Speaks (value_uses_marks v)) (data_value s x v)
   data_value_marked x (NullValue at) = tt
@@ -90,9 +90,9 @@ module _ (s : Scope) where
   data_value_marked x (NumberValue n) = refl
   data_value_marked x (MarkValue at n) = tt
   data_value_marked x (UnmarkValue at n) = tt
-  data_value_marked x (PlaceValue (PlaceOf n None)) = any (Speaks false) (data_at s n) _ (λ y. refl)
+  data_value_marked x (PlaceValue (PlaceOf n None)) = any (Speaks false) (role_as as_data s n) _ (λ y. refl)
   data_value_marked x (PlaceValue (PlaceOf n (Some f))) =
-      any (Speaks false) (pointer_at s n) _ (λ q. any (Speaks false) (data_field_at s f) _ (λ g. refl))
+      any (Speaks false) (role_as as_pointer s n) _ (λ q. any (Speaks false) (role_as as_data_field s f) _ (λ g. refl))
 
   value_into_marked : (v : ValueTree) (n : Placed Text) (left : Role)
       → Has (Speaks (value_uses_marks v)) (value_into s v n left)
@@ -103,13 +103,13 @@ module _ (s : Scope) where
   pointer_atom_marked : (p : Var) (f : FieldId) (a : AtomTree) → Has (Speaks false) (pointer_atom s p f a)
   pointer_atom_marked p f (NullAtom at) = refl
   pointer_atom_marked p f (NumberAtom n) = tt
-  pointer_atom_marked p f (NameAtom n) = any (Speaks false) (pointer_at s n) _ (λ q. refl)
+  pointer_atom_marked p f (NameAtom n) = any (Speaks false) (role_as as_pointer s n) _ (λ q. refl)
 
   number_marked : (a : AtomTree) (make : Num → Primitive) → ((e : Num) → Speaks false (make e))
       → Has (Speaks false) (with_number s a make)
   number_marked (NullAtom at) make plain = tt
   number_marked (NumberAtom n) make plain = plain (Lit n.value)
-  number_marked (NameAtom n) make plain = any (Speaks false) (data_at s n) _ (λ y. plain (DataLocal y))
+  number_marked (NameAtom n) make plain = any (Speaks false) (role_as as_data s n) _ (λ y. plain (DataLocal y))
 
   atom_into_marked : (p : Var) (a : AtomTree) (n : Placed Text) (field : Role)
       → Has (Speaks false) (atom_into s p a n field)
@@ -122,32 +122,32 @@ module _ (s : Scope) where
   set_marked (SetName n v) =
       any (Speaks (value_uses_marks v)) (role_at s n) _ (λ left. value_into_marked v n left)
   set_marked (SetField n f a) =
-      any (Speaks false) (pointer_at s n) _ (λ p.
+      any (Speaks false) (role_as as_pointer s n) _ (λ p.
       any (Speaks false) (role_at s f) _ (λ field. atom_into_marked p a f field))
 
   refresh_from_marked : (p : ℕ) (place : PlaceTree) → Has (Speaks false) (refresh_from s p place)
-  refresh_from_marked p (PlaceOf n None) = any (Speaks false) (pointer_at s n) _ (λ q. refl)
+  refresh_from_marked p (PlaceOf n None) = any (Speaks false) (role_as as_pointer s n) _ (λ q. refl)
   refresh_from_marked p (PlaceOf n (Some f)) =
-      any (Speaks false) (pointer_at s n) _ (λ q. any (Speaks false) (pointer_field_at s f) _ (λ g. refl))
+      any (Speaks false) (role_as as_pointer s n) _ (λ q. any (Speaks false) (role_as as_pointer_field s f) _ (λ g. refl))
 
   refresh_name_marked : (n : Placed Text) (place : PlaceTree) → Has (Speaks false) (refresh_name_means s n place)
   unfolding refresh_name_means
   refresh_name_marked n place =
-      any (Speaks false) (pointer_local_at s n) _ (λ p. refresh_from_marked p place)
+      any (Speaks false) (role_as as_pointer_local s n) _ (λ p. refresh_from_marked p place)
 
   refresh_marked : (t : RefreshTree) → Has (Speaks false) (refresh_means s t)
   unfolding refresh_means
   refresh_marked (RefreshName n place) = refresh_name_marked n place
   refresh_marked (RefreshField n f m) =
-      any (Speaks false) (pointer_at s n) _ (λ p.
-      any (Speaks false) (pointer_field_at s f) _ (λ g.
-      any (Speaks false) (pointer_at s m) _ (λ q. refl)))
+      any (Speaks false) (role_as as_pointer s n) _ (λ p.
+      any (Speaks false) (role_as as_pointer_field s f) _ (λ g.
+      any (Speaks false) (role_as as_pointer s m) _ (λ q. refl)))
 
   ghost_set_marked : (in_init : Bool) (t : GhostSetTree) → Has (Speaks false) (ghost_set_means s in_init t)
   unfolding ghost_set_means
   ghost_set_marked in_init (SetGhost n f v) =
-      any (Speaks false) (pointer_at s n) _ (λ p.
-      any (Speaks false) (auxiliary_at s f) _ (λ g.
+      any (Speaks false) (role_as as_pointer s n) _ (λ p.
+      any (Speaks false) (role_as as_auxiliary s f) _ (λ g.
       any (Speaks false) (ghost_value_means s in_init g.0 g.1 v) _ (λ w. refl)))
 
   equality_marked : (p : Var) (is_equal : Bool) (a : AtomTree)
@@ -155,8 +155,8 @@ module _ (s : Scope) where
   equality_marked p true (NullAtom at) = refl
   equality_marked p false (NullAtom at) = refl
   equality_marked p is_equal (NumberAtom n) = tt
-  equality_marked p true (NameAtom n) = any (Speaks false) (pointer_at s n) _ (λ q. refl)
-  equality_marked p false (NameAtom n) = any (Speaks false) (pointer_at s n) _ (λ q. refl)
+  equality_marked p true (NameAtom n) = any (Speaks false) (role_as as_pointer s n) _ (λ q. refl)
+  equality_marked p false (NameAtom n) = any (Speaks false) (role_as as_pointer s n) _ (λ q. refl)
 
   pointer_test_marked : (p : Var) (at : ℕ) (c : Comparison) (a : AtomTree)
       → Has (Speaks false) (pointer_test s p at c a)
@@ -173,8 +173,8 @@ module _ (s : Scope) where
 
   test_marked : (t : TestTree) → Has (Speaks (test_uses_marks t)) (test_means s t)
   unfolding test_means
-  test_marked (MarkedTest n) = any (Speaks true) (pointer_at s n) _ (λ p. refl)
-  test_marked (UnmarkedTest n) = any (Speaks true) (pointer_at s n) _ (λ p. refl)
+  test_marked (MarkedTest n) = any (Speaks true) (role_as as_pointer s n) _ (λ p. refl)
+  test_marked (UnmarkedTest n) = any (Speaks true) (role_as as_pointer s n) _ (λ p. refl)
   test_marked (Compares n c a) =
       any (Speaks false) (role_at s n) _ (λ left. test_of_marked n c a left)
 
@@ -191,7 +191,7 @@ module _ (s : Scope) where
       next (Speaks false) (ConditionSpeaks false) (refresh_name_means s n place) _ (refresh_name_marked n place)
       (λ k a. a)
   condition_marked (CasCondition is_active n old new) =
-      any (ConditionSpeaks false) (pointer_at s n) _ (λ p.
+      any (ConditionSpeaks false) (role_as as_pointer s n) _ (λ p.
       any (ConditionSpeaks false) (pointer_or_null s old) _ (λ q.
       any (ConditionSpeaks false) (pointer_or_null s new) _ (λ r. refl)))
 
@@ -206,7 +206,7 @@ module _ (s : Scope) where
       some_marked false (refresh_means s refresh) (refresh_marked refresh)
   primitive_marked (GhostPrimitive set) =
       some_marked false (ghost_set_means s false set) (ghost_set_marked false set)
-  primitive_marked (ActivePrimitive n) = any (MaybeSpeaks false) (pointer_at s n) _ (λ p. refl)
+  primitive_marked (ActivePrimitive n) = any (MaybeSpeaks false) (role_as as_pointer s n) _ (λ p. refl)
   primitive_marked (AssumePrimitive t) =
       some_marked (test_uses_marks t) (test_means s t) (test_marked t)
   primitive_marked SkipPrimitive = refl

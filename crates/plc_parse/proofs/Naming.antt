@@ -1,13 +1,15 @@
 -- A file with a meaning names what is there: in `init`, in the operations, and where it says what is watched. Each form is read where the names
 -- in reach are there (`Reach.antt`), and leaves them so.
-use Rattle.std.proofs.Common.{◌≡◌, ◌==◌, ◌&&◌, ◌||◌, ℕ, ◌+◌, Bool, true, false, Option, Some, None, IfSome, Result, Ok, Err, List, [], ◌∷◌, length, refl, arith}
+use Rattle.std.proofs.Common.{◌≡◌, ◌==◌, ◌&&◌, ◌||◌, ℕ, ◌+◌, Bool, true, false, Option, Some, None, IfSome, Result, Ok}
+use Rattle.std.proofs.Common.{Err, List, [], ◌∷◌, length, refl, arith}
 use Rattle.plc_lang.specs.declared.syntax.Var.{Var}
 use Rattle.plc_lang.specs.declared.syntax.Rel.{Rel}
 use Rattle.plc_lang.specs.declared.syntax.Primitive.{Primitive}
 use Rattle.plc_lang.specs.declared.syntax.Op.{Op}
 use Rattle.plc_lang.specs.Allocation.{is_new}
 use Rattle.plc_lang.specs.Fit.{NamesWhatIsThere}
-use Rattle.plc_lang.specs.Shape.{Shape, VarIn, VarOrNullIn, ArgIn, PrimitiveIn, PrimitivesIn, CondIn, StatementIn, StatementsIn, BlocksIn}
+use Rattle.plc_lang.specs.Shape.{Shape, VarIn, VarOrNullIn, ArgIn, PrimitiveIn, PrimitivesIn, CondIn, StatementIn}
+use Rattle.plc_lang.specs.Shape.{StatementsIn, BlocksIn}
 use Rattle.plc_base.specs.Functions.{is_retire}
 use Rattle.plc_base.specs.Limits.{most}
 use Rattle.plc_base.specs.declared.limits.What1.TheVariants as limits
@@ -15,22 +17,48 @@ use Rattle.plc_base.specs.declared.ids.FieldId.{FieldId}
 use Rattle.plc_base.specs.declared.ids.FuncId.{FuncId}
 use Rattle.plc_auto.specs.declared.observer.Observer.{Observer}
 use Rattle.plc_auto.specs.Table.{is_well_formed}
-use Rattle.plc_syntax.specs.Trees.{Text, Placed, PlaceTree, PlaceOf, AtomTree, NullAtom, NumberAtom, NameAtom, ValueTree, NullValue, NewValue, NumberValue, MarkValue, UnmarkValue, PlaceValue, SetTree, SetName, SetField, RefreshTree, RefreshName, RefreshField, GhostSetTree, SetGhost, InitialTree, InitialSet, InitialGhost, Comparison, SameAs, OtherThan, LessThan, NotLessThan, TestTree, MarkedTest, UnmarkedTest, Compares, ConditionTree, TestCondition, RefreshCondition, CasCondition, PrimitiveTree, SetPrimitive, RefreshPrimitive, GhostPrimitive, ActivePrimitive, AssumePrimitive, SkipPrimitive, ArgumentTree, NoArgument, NullArgument, NameArgument, ActiveArgument, FieldTree, PointerField as PointerFieldTree, DataField as DataFieldTree, FunctionTree, Declares, WatchTree, UseHazard, UseEpoch, OneOf, OfThreads, GhostTree, Auxiliary as AuxiliaryTree, BlockTree, OpTree, Operates, FileTree}
+use Rattle.plc_syntax.specs.Trees.{Text, Placed, PlaceTree, PlaceOf, AtomTree, NullAtom, NumberAtom, NameAtom}
+use Rattle.plc_syntax.specs.Trees.{ValueTree, NullValue, NewValue, NumberValue, MarkValue, UnmarkValue, PlaceValue}
+use Rattle.plc_syntax.specs.Trees.{SetTree, SetName, SetField, RefreshTree, RefreshName, RefreshField, GhostSetTree}
+use Rattle.plc_syntax.specs.Trees.{SetGhost, InitialTree, InitialSet, InitialGhost, Comparison, SameAs, OtherThan}
+use Rattle.plc_syntax.specs.Trees.{LessThan, NotLessThan, TestTree, MarkedTest, UnmarkedTest, Compares, ConditionTree}
+use Rattle.plc_syntax.specs.Trees.{TestCondition, RefreshCondition, CasCondition, PrimitiveTree, SetPrimitive}
+use Rattle.plc_syntax.specs.Trees.{RefreshPrimitive, GhostPrimitive, ActivePrimitive, AssumePrimitive, SkipPrimitive}
+use Rattle.plc_syntax.specs.Trees.{ArgumentTree, NoArgument, NullArgument, NameArgument, ActiveArgument, FieldTree}
+use Rattle.plc_syntax.specs.Trees.{PointerField as PointerFieldTree, DataField as DataFieldTree, FunctionTree, Declares}
+use Rattle.plc_syntax.specs.Trees.{WatchTree, UseHazard, UseEpoch, OneOf, OfThreads, GhostTree}
+use Rattle.plc_syntax.specs.Trees.{Auxiliary as AuxiliaryTree, BlockTree, OpTree, Operates, FileTree}
 use Rattle.plc_scope.specs.declared.fault.ParseFault.{ParseFault}
 use Rattle.plc_scope.specs.declared.scope.Scope.{Scope}
 use Rattle.plc_scope.specs.declared.binding.Binding.{Binding}
-use Rattle.plc_scope.specs.declared.binding.Binding.TheVariants.{Taken, Shared, PointerField, DataField, Function, Auxiliary, Value, LocalOnly}
+use Rattle.plc_scope.specs.declared.binding.Binding.TheVariants.{Taken, Shared, PointerField, DataField, Function}
+use Rattle.plc_scope.specs.declared.binding.Binding.TheVariants.{Auxiliary, Value, LocalOnly}
 use Rattle.plc_scope.specs.declared.binding.Role.{Role}
-use Rattle.plc_scope.specs.declared.binding.Role.TheVariants.{PointerVariable as pointer_variable, DataLocal as data_local, PointerField as pointer_field, DataField as data_field}
-use Rattle.plc_scope.specs.Scope.{◌>>=◌, first_scope, role_at, declared, declared_label, declared_parameter, pointer_at, pointer_local_at, data_at, pointer_field_at, data_field_at, function_at, auxiliary_at, protecting_at, without_pointer_at}
-use Rattle.plc_scope.specs.Primitives.{pointer_value, data_value, value_into, pointer_atom, data_atom, atom_into, set_means, refresh_from, refresh_name_means, refresh_means, ghost_value_means, ghost_set_means, pointer_equality, pointer_test, data_test, test_of, test_means, pointer_or_null, condition_means, primitive_means, initial_means, CallMeaning, argument_means, call_means}
+use Rattle.plc_scope.specs.declared.binding.Role.TheVariants.{PointerVariable as pointer_variable}
+use Rattle.plc_scope.specs.declared.binding.Role.TheVariants.{DataLocal as data_local, PointerField as pointer_field}
+use Rattle.plc_scope.specs.declared.binding.Role.TheVariants.{DataField as data_field}
+use Rattle.plc_scope.specs.Scope.{◌>>=◌, first_scope, role_at, declared, declared_label, declared_parameter, role_as}
+use Rattle.plc_scope.specs.Scope.{as_pointer, as_pointer_local, as_data, as_pointer_field, as_data_field, as_function}
+use Rattle.plc_scope.specs.Scope.{as_auxiliary, as_protecting, as_without_pointer}
+use Rattle.plc_scope.specs.Primitives.{pointer_value, data_value, value_into, pointer_atom, data_atom, atom_into}
+use Rattle.plc_scope.specs.Primitives.{set_means, refresh_from, refresh_name_means, refresh_means, ghost_value_means}
+use Rattle.plc_scope.specs.Primitives.{ghost_set_means, pointer_equality, pointer_test, data_test, test_of, test_means}
+use Rattle.plc_scope.specs.Primitives.{pointer_or_null, condition_means, primitive_means, initial_means, CallMeaning}
+use Rattle.plc_scope.specs.Primitives.{argument_means, call_means}
 use Rattle.plc_parse.specs.declared.unit.Unit.{Unit as FileUnit}
 use Rattle.plc_scope.specs.Limits.{stands_at}
-use Rattle.plc_parse.specs.Meaning.{counted, before, allocates, count_of, forms_mean, atomic_means, initials_mean, one_or_skip, label_means, statements_mean, field_means, shared_means, function_means, value_means, values_mean, ghost_means, listed, watch_means, init_means, parameters_mean, local_means, locals_mean, op_means, placed_op_means, line_at, outlined_means, file_means}
+use Rattle.plc_parse.specs.Meaning.{counted, before, allocates, count_of, forms_mean, atomic_means, initials_mean}
+use Rattle.plc_parse.specs.Meaning.{one_or_skip, label_means, statements_mean, field_means, shared_means}
+use Rattle.plc_parse.specs.Meaning.{function_means, value_means, values_mean, ghost_means, listed, watch_means}
+use Rattle.plc_parse.specs.Meaning.{init_means, parameters_mean, local_means, locals_mean, op_means, placed_op_means}
+use Rattle.plc_parse.specs.Meaning.{line_at, outlined_means, file_means}
 use Rattle.plc_scope.proofs.Holds.{Has, has_along, weaker, next, any, unless, both_err}
 use Rattle.plc_parse.proofs.Holds.{OneHas, EachHas, one_name, each_has, Free}
-use Rattle.plc_parse.proofs.Upward.{Facts, GoesUp, PartsHave, PrimitiveHas, AtomicHas, CallHas, LabelRead, Read, statements_read}
-use Rattle.plc_parse.proofs.Reach.{BindingIn, RoleIn, Bound, Reaches, outside, inside, reaches_more, first_reaches, declared_reaches, label_reaches, local_bound, parameter_bound, PointerIn, ValueIn, FieldIn, NotRetire, names_in}
+use Rattle.plc_parse.proofs.Upward.{Facts, GoesUp, PartsHave, PrimitiveHas, AtomicHas, CallHas, LabelRead, Read}
+use Rattle.plc_parse.proofs.Upward.{statements_read}
+use Rattle.plc_parse.proofs.Reach.{BindingIn, RoleIn, Bound, Reaches, outside, inside, reaches_more, first_reaches}
+use Rattle.plc_parse.proofs.Reach.{declared_reaches, label_reaches, local_bound, parameter_bound, PointerIn, ValueIn}
+use Rattle.plc_parse.proofs.Reach.{FieldIn, NotRetire, names_in}
 
 -- ---- primitives, conditions and calls in a scope
 
@@ -44,12 +72,12 @@ module _ (h : Shape) (s : Scope) (r : Reaches h s) where
   pointer_value_in p (NewValue at) is = is
   pointer_value_in p (NumberValue n) is = tt
   pointer_value_in p (MarkValue at n) is =
-      next (VarIn h) (PrimitiveIn h) (pointer_at s n) _ (names_in h s r n).pointer (λ q a. (is, a))
+      next (VarIn h) (PrimitiveIn h) (role_as as_pointer s n) _ (names_in h s r n).pointer (λ q a. (is, a))
   pointer_value_in p (UnmarkValue at n) is =
-      next (VarIn h) (PrimitiveIn h) (pointer_at s n) _ (names_in h s r n).pointer (λ q a. (is, a))
-  pointer_value_in p (PlaceValue (PlaceOf n None)) is = next (VarIn h) (PrimitiveIn h) (pointer_at s n) _ (names_in h s r n).pointer (λ q a. (is, a))
-  pointer_value_in p (PlaceValue (PlaceOf n (Some f))) is = next (VarIn h) (PrimitiveIn h) (pointer_at s n) _ (names_in h s r n).pointer (λ q a.
-      next (FieldIn h) (PrimitiveIn h) (pointer_field_at s f) _ (names_in h s r f).pointer_field (λ g b. (is, a, b)))
+      next (VarIn h) (PrimitiveIn h) (role_as as_pointer s n) _ (names_in h s r n).pointer (λ q a. (is, a))
+  pointer_value_in p (PlaceValue (PlaceOf n None)) is = next (VarIn h) (PrimitiveIn h) (role_as as_pointer s n) _ (names_in h s r n).pointer (λ q a. (is, a))
+  pointer_value_in p (PlaceValue (PlaceOf n (Some f))) is = next (VarIn h) (PrimitiveIn h) (role_as as_pointer s n) _ (names_in h s r n).pointer (λ q a.
+      next (FieldIn h) (PrimitiveIn h) (role_as as_pointer_field s f) _ (names_in h s r f).pointer_field (λ g b. (is, a, b)))
 
   data_value_in : (x : ℕ) (v : ValueTree) → ValueIn h x → Has (PrimitiveIn h) (data_value s x v)
   data_value_in x (NullValue at) is = tt
@@ -57,9 +85,9 @@ module _ (h : Shape) (s : Scope) (r : Reaches h s) where
   data_value_in x (NumberValue n) is = (is, tt)
   data_value_in x (MarkValue at n) is = tt
   data_value_in x (UnmarkValue at n) is = tt
-  data_value_in x (PlaceValue (PlaceOf n None)) is = next (ValueIn h) (PrimitiveIn h) (data_at s n) _ (names_in h s r n).value (λ y a. (is, a))
-  data_value_in x (PlaceValue (PlaceOf n (Some f))) is = next (VarIn h) (PrimitiveIn h) (pointer_at s n) _ (names_in h s r n).pointer (λ q a.
-      next (FieldIn h) (PrimitiveIn h) (data_field_at s f) _ (names_in h s r f).data_field (λ g b. (is, a, b)))
+  data_value_in x (PlaceValue (PlaceOf n None)) is = next (ValueIn h) (PrimitiveIn h) (role_as as_data s n) _ (names_in h s r n).value (λ y a. (is, a))
+  data_value_in x (PlaceValue (PlaceOf n (Some f))) is = next (VarIn h) (PrimitiveIn h) (role_as as_pointer s n) _ (names_in h s r n).pointer (λ q a.
+      next (FieldIn h) (PrimitiveIn h) (role_as as_data_field s f) _ (names_in h s r f).data_field (λ g b. (is, a, b)))
 
   value_into_in : (v : ValueTree) (n : Placed Text) (left : Role) → RoleIn h left → Has (PrimitiveIn h) (value_into s v n left)
   value_into_in v n (pointer_variable p) is = pointer_value_in p v is
@@ -69,12 +97,12 @@ module _ (h : Shape) (s : Scope) (r : Reaches h s) where
   pointer_atom_in : (p : Var) (f : FieldId) (a : AtomTree) → VarIn h p → FieldIn h f → Has (PrimitiveIn h) (pointer_atom s p f a)
   pointer_atom_in p f (NullAtom at) is field = (is, field)
   pointer_atom_in p f (NumberAtom n) is field = tt
-  pointer_atom_in p f (NameAtom n) is field = next (VarIn h) (PrimitiveIn h) (pointer_at s n) _ (names_in h s r n).pointer (λ q a. (is, field, a))
+  pointer_atom_in p f (NameAtom n) is field = next (VarIn h) (PrimitiveIn h) (role_as as_pointer s n) _ (names_in h s r n).pointer (λ q a. (is, field, a))
 
   data_atom_in : (p : Var) (f : FieldId) (a : AtomTree) → VarIn h p → FieldIn h f → Has (PrimitiveIn h) (data_atom s p f a)
   data_atom_in p f (NullAtom at) is field = tt
   data_atom_in p f (NumberAtom n) is field = (is, field, tt)
-  data_atom_in p f (NameAtom n) is field = next (ValueIn h) (PrimitiveIn h) (data_at s n) _ (names_in h s r n).value (λ y a. (is, field, a))
+  data_atom_in p f (NameAtom n) is field = next (ValueIn h) (PrimitiveIn h) (role_as as_data s n) _ (names_in h s r n).value (λ y a. (is, field, a))
 
   atom_into_in : (p : Var) (a : AtomTree) (n : Placed Text) (field : Role) → VarIn h p → RoleIn h field → Has (PrimitiveIn h) (atom_into s p a n field)
   atom_into_in p a n (pointer_field f) is field = pointer_atom_in p f a is field
@@ -84,36 +112,36 @@ module _ (h : Shape) (s : Scope) (r : Reaches h s) where
   set_in : (t : SetTree) → Has (PrimitiveIn h) (set_means s t)
   unfolding set_means
   set_in (SetName n v) = next (RoleIn h) (PrimitiveIn h) (role_at s n) _ (names_in h s r n).any (λ left a. value_into_in v n left a)
-  set_in (SetField n f a) = next (VarIn h) (PrimitiveIn h) (pointer_at s n) _ (names_in h s r n).pointer (λ p is.
+  set_in (SetField n f a) = next (VarIn h) (PrimitiveIn h) (role_as as_pointer s n) _ (names_in h s r n).pointer (λ p is.
       next (RoleIn h) (PrimitiveIn h) (role_at s f) _ (names_in h s r f).any (λ field b. atom_into_in p a f field is b))
 
   refresh_from_in : (p : ℕ) (place : PlaceTree) → PointerIn h p → Has (PrimitiveIn h) (refresh_from s p place)
-  refresh_from_in p (PlaceOf n None) is = next (VarIn h) (PrimitiveIn h) (pointer_at s n) _ (names_in h s r n).pointer (λ q a. (is, a))
-  refresh_from_in p (PlaceOf n (Some f)) is = next (VarIn h) (PrimitiveIn h) (pointer_at s n) _ (names_in h s r n).pointer (λ q a.
-      next (FieldIn h) (PrimitiveIn h) (pointer_field_at s f) _ (names_in h s r f).pointer_field (λ g b. (is, a, b)))
+  refresh_from_in p (PlaceOf n None) is = next (VarIn h) (PrimitiveIn h) (role_as as_pointer s n) _ (names_in h s r n).pointer (λ q a. (is, a))
+  refresh_from_in p (PlaceOf n (Some f)) is = next (VarIn h) (PrimitiveIn h) (role_as as_pointer s n) _ (names_in h s r n).pointer (λ q a.
+      next (FieldIn h) (PrimitiveIn h) (role_as as_pointer_field s f) _ (names_in h s r f).pointer_field (λ g b. (is, a, b)))
 
   refresh_name_in : (n : Placed Text) (place : PlaceTree) → Has (PrimitiveIn h) (refresh_name_means s n place)
   unfolding refresh_name_means
-  refresh_name_in n place = next (PointerIn h) (PrimitiveIn h) (pointer_local_at s n) _ (names_in h s r n).pointer_local (λ p a. refresh_from_in p place a)
+  refresh_name_in n place = next (PointerIn h) (PrimitiveIn h) (role_as as_pointer_local s n) _ (names_in h s r n).pointer_local (λ p a. refresh_from_in p place a)
 
   refresh_in : (t : RefreshTree) → Has (PrimitiveIn h) (refresh_means s t)
   unfolding refresh_means
   refresh_in (RefreshName n place) = refresh_name_in n place
-  refresh_in (RefreshField n f m) = next (VarIn h) (PrimitiveIn h) (pointer_at s n) _ (names_in h s r n).pointer (λ p a.
-      next (FieldIn h) (PrimitiveIn h) (pointer_field_at s f) _ (names_in h s r f).pointer_field (λ g b.
-      next (VarIn h) (PrimitiveIn h) (pointer_at s m) _ (names_in h s r m).pointer (λ q c. (a, b, c))))
+  refresh_in (RefreshField n f m) = next (VarIn h) (PrimitiveIn h) (role_as as_pointer s n) _ (names_in h s r n).pointer (λ p a.
+      next (FieldIn h) (PrimitiveIn h) (role_as as_pointer_field s f) _ (names_in h s r f).pointer_field (λ g b.
+      next (VarIn h) (PrimitiveIn h) (role_as as_pointer s m) _ (names_in h s r m).pointer (λ q c. (a, b, c))))
 
   ghost_set_in : (in_init : Bool) (t : GhostSetTree) → Has (PrimitiveIn h) (ghost_set_means s in_init t)
   unfolding ghost_set_means
-  ghost_set_in in_init (SetGhost n f v) = next (VarIn h) (PrimitiveIn h) (pointer_at s n) _ (names_in h s r n).pointer (λ p a.
-      any (PrimitiveIn h) (auxiliary_at s f) _ (λ g. any (PrimitiveIn h) (ghost_value_means s in_init g.0 g.1 v) _ (λ w. a)))
+  ghost_set_in in_init (SetGhost n f v) = next (VarIn h) (PrimitiveIn h) (role_as as_pointer s n) _ (names_in h s r n).pointer (λ p a.
+      any (PrimitiveIn h) (role_as as_auxiliary s f) _ (λ g. any (PrimitiveIn h) (ghost_value_means s in_init g.0 g.1 v) _ (λ w. a)))
 
   equality_in : (p : Var) (is_equal : Bool) (a : AtomTree) → VarIn h p → Has (PrimitiveIn h) (pointer_equality s p is_equal a)
   equality_in p true (NullAtom at) is = is
   equality_in p false (NullAtom at) is = is
   equality_in p is_equal (NumberAtom n) is = tt
-  equality_in p true (NameAtom n) is = next (VarIn h) (PrimitiveIn h) (pointer_at s n) _ (names_in h s r n).pointer (λ q a. (is, a))
-  equality_in p false (NameAtom n) is = next (VarIn h) (PrimitiveIn h) (pointer_at s n) _ (names_in h s r n).pointer (λ q a. (is, a))
+  equality_in p true (NameAtom n) is = next (VarIn h) (PrimitiveIn h) (role_as as_pointer s n) _ (names_in h s r n).pointer (λ q a. (is, a))
+  equality_in p false (NameAtom n) is = next (VarIn h) (PrimitiveIn h) (role_as as_pointer s n) _ (names_in h s r n).pointer (λ q a. (is, a))
 
   pointer_test_in : (p : Var) (at : ℕ) (c : Comparison) (a : AtomTree) → VarIn h p → Has (PrimitiveIn h) (pointer_test s p at c a)
   pointer_test_in p at SameAs a is = equality_in p true a is
@@ -124,7 +152,7 @@ module _ (h : Shape) (s : Scope) (r : Reaches h s) where
   data_test_in : (x : ℕ) (rel : Rel) (a : AtomTree) → ValueIn h x → Has (PrimitiveIn h) (data_test s x rel a)
   data_test_in x rel (NullAtom at) is = tt
   data_test_in x rel (NumberAtom n) is = (is, tt)
-  data_test_in x rel (NameAtom n) is = next (ValueIn h) (PrimitiveIn h) (data_at s n) _ (names_in h s r n).value (λ y a. (is, a))
+  data_test_in x rel (NameAtom n) is = next (ValueIn h) (PrimitiveIn h) (role_as as_data s n) _ (names_in h s r n).value (λ y a. (is, a))
 
   test_of_in : (n : Placed Text) (c : Placed Comparison) (a : AtomTree) (left : Role) → RoleIn h left → Has (PrimitiveIn h) (test_of s n c a left)
   test_of_in n c a (pointer_variable p) is = pointer_test_in p c.at c.value a is
@@ -134,21 +162,21 @@ module _ (h : Shape) (s : Scope) (r : Reaches h s) where
   test_in : (t : TestTree) → Has (PrimitiveIn h) (test_means s t)
   unfolding test_means
   test_in (MarkedTest n) =
-      next (VarIn h) (PrimitiveIn h) (pointer_at s n) _ (names_in h s r n).pointer (λ p a. a)
+      next (VarIn h) (PrimitiveIn h) (role_as as_pointer s n) _ (names_in h s r n).pointer (λ p a. a)
   test_in (UnmarkedTest n) =
-      next (VarIn h) (PrimitiveIn h) (pointer_at s n) _ (names_in h s r n).pointer (λ p a. a)
+      next (VarIn h) (PrimitiveIn h) (role_as as_pointer s n) _ (names_in h s r n).pointer (λ p a. a)
   test_in (Compares n c a) = next (RoleIn h) (PrimitiveIn h) (role_at s n) _ (names_in h s r n).any (λ left b. test_of_in n c a left b)
 
   or_null_in : (n : Option (Placed Text)) → Has (VarOrNullIn h) (pointer_or_null s n)
   or_null_in None = tt
-  or_null_in (Some n) = next (VarIn h) (VarOrNullIn h) (pointer_at s n) _ (names_in h s r n).pointer (λ q a. a)
+  or_null_in (Some n) = next (VarIn h) (VarOrNullIn h) (role_as as_pointer s n) _ (names_in h s r n).pointer (λ q a. a)
 
   condition_in : (c : ConditionTree) → Has (CondIn h) (condition_means s c)
   unfolding condition_means
   condition_in (TestCondition t) = next (PrimitiveIn h) (CondIn h) (test_means s t) _ (test_in t) (λ k a. a)
   condition_in (RefreshCondition n place) = next (PrimitiveIn h) (CondIn h) (refresh_name_means s n place) _ (refresh_name_in n place) (λ k a. a)
   condition_in (CasCondition is_active n old new) =
-      next (VarIn h) (CondIn h) (pointer_at s n) _ (names_in h s r n).pointer (λ p a.
+      next (VarIn h) (CondIn h) (role_as as_pointer s n) _ (names_in h s r n).pointer (λ p a.
       next (VarOrNullIn h) (CondIn h) (pointer_or_null s old) _ (or_null_in old) (λ q b.
       next (VarOrNullIn h) (CondIn h) (pointer_or_null s new) _ (or_null_in new) (λ q c. (a, b, c))))
 
@@ -160,7 +188,7 @@ module _ (h : Shape) (s : Scope) (r : Reaches h s) where
   primitive_in (SetPrimitive set) = some_in (set_means s set) (set_in set)
   primitive_in (RefreshPrimitive refresh) = some_in (refresh_means s refresh) (refresh_in refresh)
   primitive_in (GhostPrimitive set) = some_in (ghost_set_means s false set) (ghost_set_in false set)
-  primitive_in (ActivePrimitive n) = next (VarIn h) (IfPrimitiveIn h) (pointer_at s n) _ (names_in h s r n).pointer (λ p a. a)
+  primitive_in (ActivePrimitive n) = next (VarIn h) (IfPrimitiveIn h) (role_as as_pointer s n) _ (names_in h s r n).pointer (λ p a. a)
   primitive_in (AssumePrimitive t) = some_in (test_means s t) (test_in t)
   primitive_in SkipPrimitive = tt
 
@@ -177,12 +205,12 @@ module _ (h : Shape) (s : Scope) (r : Reaches h s) where
   argument_in n f false a = tt
   argument_in n f true NoArgument = tt
   argument_in n f true NullArgument = unless CallIn (is_retire f) _ _ (λ other. tt)
-  argument_in n f true (NameArgument m) = next (VarIn h) CallIn (pointer_at s m) _ (names_in h s r m).pointer (λ p a. a)
-  argument_in n f true (ActiveArgument m) = next (VarIn h) CallIn (pointer_at s m) _ (names_in h s r m).pointer (λ p a. a)
+  argument_in n f true (NameArgument m) = next (VarIn h) CallIn (role_as as_pointer s m) _ (names_in h s r m).pointer (λ p a. a)
+  argument_in n f true (ActiveArgument m) = next (VarIn h) CallIn (role_as as_pointer s m) _ (names_in h s r m).pointer (λ p a. a)
 
   call_in : (n : Placed Text) (a : ArgumentTree) → Has CallIn (call_means s n a)
   unfolding call_means
-  call_in n a = any CallIn (function_at s n) _ (λ f. argument_in n f.0 f.1 a)
+  call_in n a = any CallIn (role_as as_function s n) _ (λ f. argument_in n f.0 f.1 a)
 
 -- ---- primitives of one step
 
@@ -332,9 +360,9 @@ Watches o = is_well_formed o ≡ true
 
 watch_in : (h : Shape) (s : Scope) (w : Option WatchTree) → Reaches h s → Has Watches (watch_means s w)
 watch_in h s None r = refl
-watch_in h s (Some (UseHazard f)) r = next NotRetire Watches (protecting_at s f) _ (names_in h s r f).hazard (λ g a. rw a refl)
-watch_in h s (Some (UseEpoch e l)) r = next NotRetire Watches (without_pointer_at s e) _ (names_in h s r e).epoch (λ f a.
-    next NotRetire Watches (without_pointer_at s l) _ (names_in h s r l).epoch (λ g b. rw (a, b) refl))
+watch_in h s (Some (UseHazard f)) r = next NotRetire Watches (role_as as_protecting s f) _ (names_in h s r f).hazard (λ g a. rw a refl)
+watch_in h s (Some (UseEpoch e l)) r = next NotRetire Watches (role_as as_without_pointer s e) _ (names_in h s r e).epoch (λ f a.
+    next NotRetire Watches (role_as as_without_pointer s l) _ (names_in h s r l).epoch (λ g b. rw (a, b) refl))
 
 starts_in : (h : Shape) (s : Scope) (starts : Option (List (Placed InitialTree))) → Reaches h s → Has (PrimitivesIn h) (init_means s starts)
 starts_in h s None r = tt

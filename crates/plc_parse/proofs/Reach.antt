@@ -1,6 +1,8 @@
 -- What is in reach is there: names stand for what was declared, so what is looked up is there too. Bindings number shared pointers and
 -- fields, of which no more are declared once an operation begins; locals number themselves by those before them, pointers and data apart.
-use Rattle.std.proofs.Common.{ap, ◌≡◌, ◌==◌, ◌&&◌, not, ℕ, ◌+◌, ◌≤◌, ◌<◌, Bool, true, false, cond, if◌then◌else◌, Option, Some, None, IfSome, Ok, List, [], ◌∷◌, All, length, count_by, slice_get, refl, subst, arith}
+use Rattle.std.proofs.Common.{ap, ◌≡◌, ◌==◌, ◌&&◌, not, ℕ, ◌+◌, ◌≤◌, ◌<◌, Bool, true, false, cond, if◌then◌else◌}
+use Rattle.std.proofs.Common.{Option, Some, None, IfSome, Ok, List, [], ◌∷◌, All, length, count_by, slice_get, refl}
+use Rattle.std.proofs.Common.{subst, arith}
 use Rattle.std.proofs.lemmas.Bool.{ne_eqb}
 use Rattle.std.proofs.lemmas.List.Elements.{All-get_or, All-push, All-weaker, All-nil, All-cons}
 use Rattle.std.proofs.lemmas.List.Sums.{sum_by-cons}
@@ -17,10 +19,19 @@ use Rattle.plc_syntax.specs.Trees.{Text, Placed}
 use Rattle.plc_scope.specs.declared.fault.ParseFault.TheVariants as faults
 use Rattle.plc_scope.specs.declared.scope.Scope.{Scope}
 use Rattle.plc_scope.specs.declared.binding.Binding.{Binding}
-use Rattle.plc_scope.specs.declared.binding.Binding.TheVariants.{Taken, Shared, PointerField, DataField, Function, Auxiliary, Value, LocalOnly}
+use Rattle.plc_scope.specs.declared.binding.Binding.TheVariants.{Taken, Shared, PointerField, DataField, Function}
+use Rattle.plc_scope.specs.declared.binding.Binding.TheVariants.{Auxiliary, Value, LocalOnly}
 use Rattle.plc_scope.specs.declared.binding.Role.{Role}
-use Rattle.plc_scope.specs.declared.binding.Role.TheVariants.{PointerVariable as pointer_variable, DataLocal as data_local, PointerField as pointer_field, DataField as data_field, Function as function, Auxiliary as auxiliary, Value as value, NoValue as no_value}
-use Rattle.plc_scope.specs.Scope.{◌>>=◌, most_locals, first_scope, if_new, with_name, declared, declared_label, has_local, may_name_local, local_number, with_local, declared_local, declared_parameter, binding_role, local_role, role_found, role_of, role_at, if_fits, needed, as_pointer, as_pointer_local, as_data, as_pointer_field, as_data_field, as_protecting, as_without_pointer, pointer_at, pointer_local_at, data_at, pointer_field_at, data_field_at, protecting_at, without_pointer_at}
+use Rattle.plc_scope.specs.declared.binding.Role.TheVariants.{PointerVariable as pointer_variable}
+use Rattle.plc_scope.specs.declared.binding.Role.TheVariants.{DataLocal as data_local, PointerField as pointer_field}
+use Rattle.plc_scope.specs.declared.binding.Role.TheVariants.{DataField as data_field, Function as function}
+use Rattle.plc_scope.specs.declared.binding.Role.TheVariants.{Auxiliary as auxiliary, Value as value}
+use Rattle.plc_scope.specs.declared.binding.Role.TheVariants.{NoValue as no_value}
+use Rattle.plc_scope.specs.Scope.{◌>>=◌, most_locals, first_scope, if_new, with_name, declared, declared_label}
+use Rattle.plc_scope.specs.Scope.{has_local, may_name_local, local_number, with_local, declared_local}
+use Rattle.plc_scope.specs.Scope.{declared_parameter, binding_role, local_role, role_found, role_of, role_at, if_fits}
+use Rattle.plc_scope.specs.Scope.{needed, as_pointer, as_pointer_local, as_data, as_pointer_field, as_data_field}
+use Rattle.plc_scope.specs.Scope.{as_protecting, as_without_pointer, role_as}
 use Rattle.plc_scope.proofs.Holds.{Has, next, unless, if_ok, known_has}
 use Rattle.plc_scope.proofs.Finds.{made_is, below_count}
 
@@ -225,16 +236,16 @@ without_pointer_in h k is = tt
 -- what a name is found to be is there, whatever is wanted
 pub record NamesIn (h : Shape) (s : Scope) (n : Placed Text) : Type 0 where
   pub any : Has (RoleIn h) (role_at s n)
-  pub pointer : Has (VarIn h) (pointer_at s n)
-  pub pointer_local : Has (PointerIn h) (pointer_local_at s n)
-  pub value : Has (ValueIn h) (data_at s n)
-  pub pointer_field : Has (FieldIn h) (pointer_field_at s n)
-  pub data_field : Has (FieldIn h) (data_field_at s n)
-  pub hazard : Has NotRetire (protecting_at s n)
-  pub epoch : Has NotRetire (without_pointer_at s n)
+  pub pointer : Has (VarIn h) (role_as as_pointer s n)
+  pub pointer_local : Has (PointerIn h) (role_as as_pointer_local s n)
+  pub value : Has (ValueIn h) (role_as as_data s n)
+  pub pointer_field : Has (FieldIn h) (role_as as_pointer_field s n)
+  pub data_field : Has (FieldIn h) (role_as as_data_field s n)
+  pub hazard : Has NotRetire (role_as as_protecting s n)
+  pub epoch : Has NotRetire (role_as as_without_pointer s n)
 
 pub names_in : (h : Shape) (s : Scope) (r : Reaches h s) (n : Placed Text) → NamesIn h s n
-unfolding pointer_at pointer_local_at data_at pointer_field_at data_field_at protecting_at without_pointer_at
+unfolding role_as
 names_in h s r n =
     let role = role_of s n.value in
     let is = role_in h s n.value r in

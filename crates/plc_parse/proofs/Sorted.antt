@@ -1,6 +1,7 @@
 -- Each thing of a file with a meaning stands where its kind may stand. What a name stands for is there and is what the name says (`There.antt`),
 -- and each form asks for the kind that its place wants.
-use Rattle.std.proofs.Common.{◌≡◌, ◌==◌, ◌&&◌, ◌||◌, not, if◌then◌else◌, ℕ, ◌+◌, ◌<◌, Bool, true, false, Option, Some, None, IfSome, Result, Ok, List, [], ◌∷◌, length, slice_get, refl, ap, subst}
+use Rattle.std.proofs.Common.{◌≡◌, ◌==◌, ◌&&◌, ◌||◌, not, if◌then◌else◌, ℕ, ◌+◌, ◌<◌, Bool, true, false, Option, Some}
+use Rattle.std.proofs.Common.{None, IfSome, Result, Ok, List, [], ◌∷◌, length, slice_get, refl, ap, subst}
 use Rattle.std.proofs.Math.Bool.{and-false}
 use Rattle.std.proofs.lemmas.Bool.{eqb-true}
 use Rattle.plc_base.specs.declared.ids.FieldId.{FieldId}
@@ -13,16 +14,34 @@ use Rattle.plc_lang.specs.declared.syntax.Primitive.{Primitive}
 use Rattle.plc_lang.specs.declared.syntax.Ghost.{Ghost}
 use Rattle.plc_lang.specs.declared.syntax.Local.{Local}
 use Rattle.plc_lang.specs.declared.syntax.File.{File}
-use Rattle.plc_lang.specs.WellSorted.{IsWellSorted, is_call, is_test, is_refresh, is_initial, is_me, WriteIsWellSorted, CallIsWellSorted, ClaimFits, ConditionIsWellSorted}
-use Rattle.plc_syntax.specs.Trees.{Text, Placed, PlaceTree, PlaceOf, AtomTree, NullAtom, NumberAtom, NameAtom, ValueTree, NullValue, NewValue, NumberValue, MarkValue, UnmarkValue, PlaceValue, SetTree, SetName, SetField, RefreshTree, RefreshName, RefreshField, GhostValueTree, NameGhost, MeGhost, NoneGhost, GhostSetTree, SetGhost, InitialTree, InitialSet, InitialGhost, Comparison, SameAs, OtherThan, LessThan, NotLessThan, TestTree, MarkedTest, UnmarkedTest, Compares, ConditionTree, TestCondition, RefreshCondition, CasCondition, PrimitiveTree, SetPrimitive, RefreshPrimitive, GhostPrimitive, ActivePrimitive, AssumePrimitive, SkipPrimitive, ArgumentTree, NoArgument, NullArgument, NameArgument, ActiveArgument}
+use Rattle.plc_lang.specs.WellSorted.{IsWellSorted, is_call, is_test, is_refresh, is_initial, is_me, WriteIsWellSorted}
+use Rattle.plc_lang.specs.WellSorted.{CallIsWellSorted, ClaimFits, ConditionIsWellSorted}
+use Rattle.plc_syntax.specs.Trees.{Text, Placed, PlaceTree, PlaceOf, AtomTree, NullAtom, NumberAtom, NameAtom}
+use Rattle.plc_syntax.specs.Trees.{ValueTree, NullValue, NewValue, NumberValue, MarkValue, UnmarkValue, PlaceValue}
+use Rattle.plc_syntax.specs.Trees.{SetTree, SetName, SetField, RefreshTree, RefreshName, RefreshField, GhostValueTree}
+use Rattle.plc_syntax.specs.Trees.{NameGhost, MeGhost, NoneGhost, GhostSetTree, SetGhost, InitialTree, InitialSet}
+use Rattle.plc_syntax.specs.Trees.{InitialGhost, Comparison, SameAs, OtherThan, LessThan, NotLessThan, TestTree}
+use Rattle.plc_syntax.specs.Trees.{MarkedTest, UnmarkedTest, Compares, ConditionTree, TestCondition, RefreshCondition}
+use Rattle.plc_syntax.specs.Trees.{CasCondition, PrimitiveTree, SetPrimitive, RefreshPrimitive, GhostPrimitive}
+use Rattle.plc_syntax.specs.Trees.{ActivePrimitive, AssumePrimitive, SkipPrimitive, ArgumentTree, NoArgument}
+use Rattle.plc_syntax.specs.Trees.{NullArgument, NameArgument, ActiveArgument}
 use Rattle.plc_scope.specs.declared.fault.ParseFault.{ParseFault}
 use Rattle.plc_scope.specs.declared.scope.Scope.{Scope}
 use Rattle.plc_scope.specs.declared.binding.Binding.{Binding}
 use Rattle.plc_scope.specs.declared.binding.Binding.TheVariants.{Shared}
 use Rattle.plc_scope.specs.declared.binding.Role.{Role}
-use Rattle.plc_scope.specs.declared.binding.Role.TheVariants.{PointerVariable as pointer_variable, DataLocal as data_local, PointerField as pointer_field, DataField as data_field, Function as function, Auxiliary as auxiliary, Value as value}
-use Rattle.plc_scope.specs.Scope.{◌>>=◌, needed, role_of, role_at, local_role, binding_role, as_pointer_field, as_data_field, as_function, as_protecting, as_without_pointer, as_auxiliary, as_value_of, as_thread, pointer_at, pointer_local_at, data_at, pointer_field_at, data_field_at, function_at, protecting_at, without_pointer_at, auxiliary_at, value_at, thread_at}
-use Rattle.plc_scope.specs.Primitives.{pointer_value, data_value, value_into, pointer_atom, data_atom, atom_into, set_means, refresh_from, refresh_name_means, refresh_means, ghost_value_means, ghost_set_means, pointer_equality, pointer_test, data_test, test_of, test_means, pointer_or_null, condition_means, primitive_means, initial_means, CallMeaning, argument_means, call_means}
+use Rattle.plc_scope.specs.declared.binding.Role.TheVariants.{PointerVariable as pointer_variable}
+use Rattle.plc_scope.specs.declared.binding.Role.TheVariants.{DataLocal as data_local, PointerField as pointer_field}
+use Rattle.plc_scope.specs.declared.binding.Role.TheVariants.{DataField as data_field, Function as function}
+use Rattle.plc_scope.specs.declared.binding.Role.TheVariants.{Auxiliary as auxiliary, Value as value}
+use Rattle.plc_scope.specs.Scope.{◌>>=◌, needed, role_of, role_at, local_role, binding_role, as_pointer_field}
+use Rattle.plc_scope.specs.Scope.{as_data_field, as_function, as_protecting, as_without_pointer, as_auxiliary}
+use Rattle.plc_scope.specs.Scope.{as_value_of, as_thread, role_as, as_pointer, as_pointer_local, as_data}
+use Rattle.plc_scope.specs.Primitives.{pointer_value, data_value, value_into, pointer_atom, data_atom, atom_into}
+use Rattle.plc_scope.specs.Primitives.{set_means, refresh_from, refresh_name_means, refresh_means, ghost_value_means}
+use Rattle.plc_scope.specs.Primitives.{ghost_set_means, pointer_equality, pointer_test, data_test, test_of, test_means}
+use Rattle.plc_scope.specs.Primitives.{pointer_or_null, condition_means, primitive_means, initial_means, CallMeaning}
+use Rattle.plc_scope.specs.Primitives.{argument_means, call_means}
 use Rattle.plc_scope.proofs.Holds.{Has, weaker, next, any, unless, known_has}
 use Rattle.plc_outparse.specs.Fit.{holds_threads}
 use Rattle.plc_parse.proofs.Reach.{role_is, needed_in}
@@ -104,36 +123,36 @@ module _ (d : Lists) where
     any_there : Has (RoleThere d) (role_at s n)
     any_there = known_has (RoleThere d) n.at (role_of s n.value) role_there
 
-    pointer_field_there : Has (λ f. IsField d f.0 true) (pointer_field_at s n)
-    unfolding pointer_field_at
+    pointer_field_there : Has (λ f. IsField d f.0 true) (role_as as_pointer_field s n)
+    unfolding role_as
     pointer_field_there = found (λ f. IsField d f.0 true) as_pointer_field pointer_fields
 
-    data_field_there : Has (λ f. IsField d f.0 false) (data_field_at s n)
-    unfolding data_field_at
+    data_field_there : Has (λ f. IsField d f.0 false) (role_as as_data_field s n)
+    unfolding role_as
     data_field_there = found (λ f. IsField d f.0 false) as_data_field data_fields
 
-    function_is_there : Has FunctionFound (function_at s n)
-    unfolding function_at
+    function_is_there : Has FunctionFound (role_as as_function s n)
+    unfolding role_as
     function_is_there = found FunctionFound as_function functions
 
-    pub protecting_there : Has (IsProtecting d) (protecting_at s n)
-    unfolding protecting_at
+    pub protecting_there : Has (IsProtecting d) (role_as as_protecting s n)
+    unfolding role_as
     protecting_there = found (IsProtecting d) as_protecting protecting
 
-    pub without_pointer_there : Has (IsWithoutPointer d) (without_pointer_at s n)
-    unfolding without_pointer_at
+    pub without_pointer_there : Has (IsWithoutPointer d) (role_as as_without_pointer s n)
+    unfolding role_as
     without_pointer_there = found (IsWithoutPointer d) as_without_pointer without_pointers
 
-    auxiliary_there : Has AuxiliaryFound (auxiliary_at s n)
-    unfolding auxiliary_at
+    auxiliary_there : Has AuxiliaryFound (role_as as_auxiliary s n)
+    unfolding role_as
     auxiliary_there = found AuxiliaryFound as_auxiliary auxiliaries
 
-    value_is_there : (g : ℕ) → Has (ValueFound g) (value_at s g n)
-    unfolding value_at
+    value_is_there : (g : ℕ) → Has (ValueFound g) (role_as (as_value_of g) s n)
+    unfolding role_as
     value_is_there g = found (ValueFound g) (as_value_of g) (values g)
 
-    no_thread_there : Has (λ v. ⊥) (thread_at s n)
-    unfolding thread_at
+    no_thread_there : Has (λ v. ⊥) (role_as as_thread s n)
+    unfolding role_as
     no_thread_there = found (λ v. ⊥) as_thread (λ k is. tt)
 
 -- ---- primitives, conditions and calls
@@ -161,12 +180,12 @@ module _ (file : File) (s : Scope) (all : AllThere (lists_of file) s) where
   pointer_value_sorted p (NewValue at) = record { sorted = tt; no_call = refl; of_kind = refl }
   pointer_value_sorted p (NumberValue n) = tt
   pointer_value_sorted p (MarkValue at n) =
-      any IsSet (pointer_at s n) _ (λ q. record { sorted = tt; no_call = refl; of_kind = refl })
+      any IsSet (role_as as_pointer s n) _ (λ q. record { sorted = tt; no_call = refl; of_kind = refl })
   pointer_value_sorted p (UnmarkValue at n) =
-      any IsSet (pointer_at s n) _ (λ q. record { sorted = tt; no_call = refl; of_kind = refl })
-  pointer_value_sorted p (PlaceValue (PlaceOf n None)) = any IsSet (pointer_at s n) _ (λ q. record { sorted = tt; no_call = refl; of_kind = refl })
-  pointer_value_sorted p (PlaceValue (PlaceOf n (Some f))) = any IsSet (pointer_at s n) _ (λ q.
-      next (λ g. IsField (lists_of file) g.0 true) IsSet (pointer_field_at s f) _ (pointer_field_there (lists_of file) s all f) (λ g is. record { sorted = is; no_call = refl; of_kind = refl }))
+      any IsSet (role_as as_pointer s n) _ (λ q. record { sorted = tt; no_call = refl; of_kind = refl })
+  pointer_value_sorted p (PlaceValue (PlaceOf n None)) = any IsSet (role_as as_pointer s n) _ (λ q. record { sorted = tt; no_call = refl; of_kind = refl })
+  pointer_value_sorted p (PlaceValue (PlaceOf n (Some f))) = any IsSet (role_as as_pointer s n) _ (λ q.
+      next (λ g. IsField (lists_of file) g.0 true) IsSet (role_as as_pointer_field s f) _ (pointer_field_there (lists_of file) s all f) (λ g is. record { sorted = is; no_call = refl; of_kind = refl }))
 
   data_value_sorted : (x : ℕ) (v : ValueTree) → Has IsSet (data_value s x v)
   data_value_sorted x (NullValue at) = tt
@@ -174,9 +193,9 @@ module _ (file : File) (s : Scope) (all : AllThere (lists_of file) s) where
   data_value_sorted x (NumberValue n) = record { sorted = tt; no_call = refl; of_kind = refl }
   data_value_sorted x (MarkValue at n) = tt
   data_value_sorted x (UnmarkValue at n) = tt
-  data_value_sorted x (PlaceValue (PlaceOf n None)) = any IsSet (data_at s n) _ (λ y. record { sorted = tt; no_call = refl; of_kind = refl })
-  data_value_sorted x (PlaceValue (PlaceOf n (Some f))) = any IsSet (pointer_at s n) _ (λ q.
-      next (λ g. IsField (lists_of file) g.0 false) IsSet (data_field_at s f) _ (data_field_there (lists_of file) s all f) (λ g is. record { sorted = is; no_call = refl; of_kind = refl }))
+  data_value_sorted x (PlaceValue (PlaceOf n None)) = any IsSet (role_as as_data s n) _ (λ y. record { sorted = tt; no_call = refl; of_kind = refl })
+  data_value_sorted x (PlaceValue (PlaceOf n (Some f))) = any IsSet (role_as as_pointer s n) _ (λ q.
+      next (λ g. IsField (lists_of file) g.0 false) IsSet (role_as as_data_field s f) _ (data_field_there (lists_of file) s all f) (λ g is. record { sorted = is; no_call = refl; of_kind = refl }))
 
   value_into_sorted : (v : ValueTree) (n : Placed Text) (left : Role) → Has IsSet (value_into s v n left)
   value_into_sorted v n (pointer_variable p) = pointer_value_sorted p v
@@ -186,12 +205,12 @@ module _ (file : File) (s : Scope) (all : AllThere (lists_of file) s) where
   pointer_atom_sorted : (p : Var) (f : FieldId) (a : AtomTree) → IsField (lists_of file) f.0 true → Has IsSet (pointer_atom s p f a)
   pointer_atom_sorted p f (NullAtom at) is = record { sorted = is; no_call = refl; of_kind = refl }
   pointer_atom_sorted p f (NumberAtom n) is = tt
-  pointer_atom_sorted p f (NameAtom n) is = any IsSet (pointer_at s n) _ (λ q. record { sorted = is; no_call = refl; of_kind = refl })
+  pointer_atom_sorted p f (NameAtom n) is = any IsSet (role_as as_pointer s n) _ (λ q. record { sorted = is; no_call = refl; of_kind = refl })
 
   data_atom_sorted : (p : Var) (f : FieldId) (a : AtomTree) → IsField (lists_of file) f.0 false → Has IsSet (data_atom s p f a)
   data_atom_sorted p f (NullAtom at) is = tt
   data_atom_sorted p f (NumberAtom n) is = record { sorted = is; no_call = refl; of_kind = refl }
-  data_atom_sorted p f (NameAtom n) is = any IsSet (data_at s n) _ (λ y. record { sorted = is; no_call = refl; of_kind = refl })
+  data_atom_sorted p f (NameAtom n) is = any IsSet (role_as as_data s n) _ (λ y. record { sorted = is; no_call = refl; of_kind = refl })
 
   atom_into_sorted : (p : Var) (a : AtomTree) (n : Placed Text) (field : Role) → RoleThere (lists_of file) field → Has IsSet (atom_into s p a n field)
   atom_into_sorted p a n (pointer_field f) is = pointer_atom_sorted p f a is
@@ -201,20 +220,20 @@ module _ (file : File) (s : Scope) (all : AllThere (lists_of file) s) where
   set_sorted : (t : SetTree) → Has IsSet (set_means s t)
   unfolding set_means
   set_sorted (SetName n v) = any IsSet (role_at s n) _ (λ left. value_into_sorted v n left)
-  set_sorted (SetField n f a) = any IsSet (pointer_at s n) _ (λ p.
+  set_sorted (SetField n f a) = any IsSet (role_as as_pointer s n) _ (λ p.
       next (RoleThere (lists_of file)) IsSet (role_at s f) _ (any_there (lists_of file) s all f) (λ field is. atom_into_sorted p a f field is))
 
   abbrev IsRefresh : Primitive → Type 0
   IsRefresh = IsOf file is_refresh
 
   refresh_from_sorted : (p : ℕ) (place : PlaceTree) → Has IsRefresh (refresh_from s p place)
-  refresh_from_sorted p (PlaceOf n None) = any IsRefresh (pointer_at s n) _ (λ q. record { sorted = tt; no_call = refl; of_kind = refl })
-  refresh_from_sorted p (PlaceOf n (Some f)) = any IsRefresh (pointer_at s n) _ (λ q.
-      next (λ g. IsField (lists_of file) g.0 true) IsRefresh (pointer_field_at s f) _ (pointer_field_there (lists_of file) s all f) (λ g is. record { sorted = is; no_call = refl; of_kind = refl }))
+  refresh_from_sorted p (PlaceOf n None) = any IsRefresh (role_as as_pointer s n) _ (λ q. record { sorted = tt; no_call = refl; of_kind = refl })
+  refresh_from_sorted p (PlaceOf n (Some f)) = any IsRefresh (role_as as_pointer s n) _ (λ q.
+      next (λ g. IsField (lists_of file) g.0 true) IsRefresh (role_as as_pointer_field s f) _ (pointer_field_there (lists_of file) s all f) (λ g is. record { sorted = is; no_call = refl; of_kind = refl }))
 
   refresh_name_sorted : (n : Placed Text) (place : PlaceTree) → Has IsRefresh (refresh_name_means s n place)
   unfolding refresh_name_means
-  refresh_name_sorted n place = any IsRefresh (pointer_local_at s n) _ (λ p. refresh_from_sorted p place)
+  refresh_name_sorted n place = any IsRefresh (role_as as_pointer_local s n) _ (λ p. refresh_from_sorted p place)
 
   abbrev pub IsPlain : Primitive → Type 0
   IsPlain = IsOf file every_kind
@@ -225,9 +244,9 @@ module _ (file : File) (s : Scope) (all : AllThere (lists_of file) s) where
   refresh_sorted : (t : RefreshTree) → Has IsPlain (refresh_means s t)
   unfolding refresh_means
   refresh_sorted (RefreshName n place) = weaker IsRefresh IsPlain (refresh_name_means s n place) (λ k is. plain k is) (refresh_name_sorted n place)
-  refresh_sorted (RefreshField n f m) = any IsPlain (pointer_at s n) _ (λ p.
-      next (λ g. IsField (lists_of file) g.0 true) IsPlain (pointer_field_at s f) _ (pointer_field_there (lists_of file) s all f) (λ g is.
-      any IsPlain (pointer_at s m) _ (λ q. record { sorted = is; no_call = refl; of_kind = refl })))
+  refresh_sorted (RefreshField n f m) = any IsPlain (role_as as_pointer s n) _ (λ p.
+      next (λ g. IsField (lists_of file) g.0 true) IsPlain (role_as as_pointer_field s f) _ (pointer_field_there (lists_of file) s all f) (λ g is.
+      any IsPlain (role_as as_pointer s m) _ (λ q. record { sorted = is; no_call = refl; of_kind = refl })))
 
   -- a value that fits the auxiliary field; `init` has no acting thread
   record IsValueOf (in_init : Bool) (g : ℕ) (v : GhostVal) : Type 0 where
@@ -235,8 +254,8 @@ module _ (file : File) (s : Scope) (all : AllThere (lists_of file) s) where
     starts : (in_init && is_me v) ≡ false
 
   ghost_value_sorted : (in_init : Bool) (g : ℕ) (t : Bool) (v : GhostValueTree) → AuxiliaryFound (lists_of file) (g, t) → Has (IsValueOf in_init g) (ghost_value_means s in_init g t v)
-  ghost_value_sorted in_init g false (NameGhost n) is = next (ValueFound (lists_of file) g) (IsValueOf in_init g) (value_at s g n) _ (value_is_there (lists_of file) s all n g) (λ v a. record { fits = a; starts = and-false in_init })
-  ghost_value_sorted in_init g true (NameGhost n) is = next (λ v. ⊥) (IsValueOf in_init g) (thread_at s n) _ (no_thread_there (lists_of file) s all n) (λ v a. absurd a)
+  ghost_value_sorted in_init g false (NameGhost n) is = next (ValueFound (lists_of file) g) (IsValueOf in_init g) (role_as (as_value_of g) s n) _ (value_is_there (lists_of file) s all n g) (λ v a. record { fits = a; starts = and-false in_init })
+  ghost_value_sorted in_init g true (NameGhost n) is = next (λ v. ⊥) (IsValueOf in_init g) (role_as as_thread s n) _ (no_thread_there (lists_of file) s all n) (λ v a. absurd a)
   ghost_value_sorted in_init g false (MeGhost at) is = tt
   ghost_value_sorted false g true (MeGhost at) is = record { fits = (is.0, is.1, threads_have_none is.0.values is.2); starts = refl }
   ghost_value_sorted true g true (MeGhost at) is = tt
@@ -253,8 +272,8 @@ module _ (file : File) (s : Scope) (all : AllThere (lists_of file) s) where
 
   ghost_set_sorted : (in_init : Bool) (t : GhostSetTree) → Has (IsOf file (writes in_init)) (ghost_set_means s in_init t)
   unfolding ghost_set_means
-  ghost_set_sorted in_init (SetGhost n f v) = any (IsOf file (writes in_init)) (pointer_at s n) _ (λ p.
-      next (AuxiliaryFound (lists_of file)) (IsOf file (writes in_init)) (auxiliary_at s f) _ (auxiliary_there (lists_of file) s all f) (λ g is.
+  ghost_set_sorted in_init (SetGhost n f v) = any (IsOf file (writes in_init)) (role_as as_pointer s n) _ (λ p.
+      next (AuxiliaryFound (lists_of file)) (IsOf file (writes in_init)) (role_as as_auxiliary s f) _ (auxiliary_there (lists_of file) s all f) (λ g is.
       next (IsValueOf in_init g.0) (IsOf file (writes in_init)) (ghost_value_means s in_init g.0 g.1 v) _ (ghost_value_sorted in_init g.0 g.1 v is) (λ w fits.
       record { sorted = fits.fits; no_call = refl; of_kind = write_starts in_init w fits.starts })))
 
@@ -265,8 +284,8 @@ module _ (file : File) (s : Scope) (all : AllThere (lists_of file) s) where
   equality_sorted p true (NullAtom at) = record { sorted = tt; no_call = refl; of_kind = refl }
   equality_sorted p false (NullAtom at) = record { sorted = tt; no_call = refl; of_kind = refl }
   equality_sorted p is_equal (NumberAtom n) = tt
-  equality_sorted p true (NameAtom n) = any IsTest (pointer_at s n) _ (λ q. record { sorted = tt; no_call = refl; of_kind = refl })
-  equality_sorted p false (NameAtom n) = any IsTest (pointer_at s n) _ (λ q. record { sorted = tt; no_call = refl; of_kind = refl })
+  equality_sorted p true (NameAtom n) = any IsTest (role_as as_pointer s n) _ (λ q. record { sorted = tt; no_call = refl; of_kind = refl })
+  equality_sorted p false (NameAtom n) = any IsTest (role_as as_pointer s n) _ (λ q. record { sorted = tt; no_call = refl; of_kind = refl })
 
   pointer_test_sorted : (p : Var) (at : ℕ) (c : Comparison) (a : AtomTree) → Has IsTest (pointer_test s p at c a)
   pointer_test_sorted p at SameAs a = equality_sorted p true a
@@ -277,7 +296,7 @@ module _ (file : File) (s : Scope) (all : AllThere (lists_of file) s) where
   data_test_sorted : (x : ℕ) (rel : Rel) (a : AtomTree) → Has IsTest (data_test s x rel a)
   data_test_sorted x rel (NullAtom at) = tt
   data_test_sorted x rel (NumberAtom n) = record { sorted = tt; no_call = refl; of_kind = refl }
-  data_test_sorted x rel (NameAtom n) = any IsTest (data_at s n) _ (λ y. record { sorted = tt; no_call = refl; of_kind = refl })
+  data_test_sorted x rel (NameAtom n) = any IsTest (role_as as_data s n) _ (λ y. record { sorted = tt; no_call = refl; of_kind = refl })
 
   test_of_sorted : (n : Placed Text) (c : Placed Comparison) (a : AtomTree) (left : Role) → Has IsTest (test_of s n c a left)
   test_of_sorted n c a (pointer_variable p) = pointer_test_sorted p c.at c.value a
@@ -287,9 +306,9 @@ module _ (file : File) (s : Scope) (all : AllThere (lists_of file) s) where
   test_sorted : (t : TestTree) → Has IsTest (test_means s t)
   unfolding test_means
   test_sorted (MarkedTest n) =
-      any IsTest (pointer_at s n) _ (λ p. record { sorted = tt; no_call = refl; of_kind = refl })
+      any IsTest (role_as as_pointer s n) _ (λ p. record { sorted = tt; no_call = refl; of_kind = refl })
   test_sorted (UnmarkedTest n) =
-      any IsTest (pointer_at s n) _ (λ p. record { sorted = tt; no_call = refl; of_kind = refl })
+      any IsTest (role_as as_pointer s n) _ (λ p. record { sorted = tt; no_call = refl; of_kind = refl })
   test_sorted (Compares n c a) = any IsTest (role_at s n) _ (λ left. test_of_sorted n c a left)
 
   pub condition_sorted : (c : ConditionTree) → Has (ConditionIsWellSorted file) (condition_means s c)
@@ -297,7 +316,7 @@ module _ (file : File) (s : Scope) (all : AllThere (lists_of file) s) where
   condition_sorted (TestCondition t) = next IsTest (ConditionIsWellSorted file) (test_means s t) _ (test_sorted t) (λ k is. is.of_kind)
   condition_sorted (RefreshCondition n place) = next IsRefresh (ConditionIsWellSorted file) (refresh_name_means s n place) _ (refresh_name_sorted n place) (λ k is. (is.sorted, is.of_kind))
   condition_sorted (CasCondition is_active n old new) =
-      any (ConditionIsWellSorted file) (pointer_at s n) _ (λ p.
+      any (ConditionIsWellSorted file) (role_as as_pointer s n) _ (λ p.
       any (ConditionIsWellSorted file) (pointer_or_null s old) _ (λ q.
       any (ConditionIsWellSorted file) (pointer_or_null s new) _ (λ r. tt)))
 
@@ -313,7 +332,7 @@ module _ (file : File) (s : Scope) (all : AllThere (lists_of file) s) where
   primitive_sorted (SetPrimitive set) = some_plain is_initial (set_means s set) (set_sorted set)
   primitive_sorted (RefreshPrimitive refresh) = some_plain every_kind (refresh_means s refresh) (refresh_sorted refresh)
   primitive_sorted (GhostPrimitive set) = some_plain (writes false) (ghost_set_means s false set) (ghost_set_sorted false set)
-  primitive_sorted (ActivePrimitive n) = any MaybePlain (pointer_at s n) _ (λ p. record { sorted = tt; no_call = refl; of_kind = refl })
+  primitive_sorted (ActivePrimitive n) = any MaybePlain (role_as as_pointer s n) _ (λ p. record { sorted = tt; no_call = refl; of_kind = refl })
   primitive_sorted (AssumePrimitive t) = some_plain is_test (test_means s t) (test_sorted t)
   primitive_sorted SkipPrimitive = tt
 
@@ -339,9 +358,9 @@ module _ (file : File) (s : Scope) (all : AllThere (lists_of file) s) where
   argument_sorted n f false (ActiveArgument m) is = tt
   argument_sorted n f true NoArgument is = tt
   argument_sorted n f true NullArgument is = unless IsCall (is_retire f) _ _ (λ other. record { sorted = (is, other); claim = refl })
-  argument_sorted n f true (NameArgument m) is = any IsCall (pointer_at s m) _ (λ p. record { sorted = is; claim = tt })
-  argument_sorted n f true (ActiveArgument m) is = any IsCall (pointer_at s m) _ (λ p. record { sorted = is; claim = tt })
+  argument_sorted n f true (NameArgument m) is = any IsCall (role_as as_pointer s m) _ (λ p. record { sorted = is; claim = tt })
+  argument_sorted n f true (ActiveArgument m) is = any IsCall (role_as as_pointer s m) _ (λ p. record { sorted = is; claim = tt })
 
   pub call_sorted : (n : Placed Text) (a : ArgumentTree) → Has IsCall (call_means s n a)
   unfolding call_means
-  call_sorted n a = next (FunctionFound (lists_of file)) IsCall (function_at s n) _ (function_is_there (lists_of file) s all n) (λ f is. argument_sorted n f.0 f.1 a is)
+  call_sorted n a = next (FunctionFound (lists_of file)) IsCall (role_as as_function s n) _ (function_is_there (lists_of file) s all n) (λ f is. argument_sorted n f.0 f.1 a is)

@@ -1,6 +1,7 @@
 -- A file with a meaning is well sorted, its observer's functions are declared, and its outline fits it: what its declarations put in reach is
 -- there in the lists of the whole file.
-use Rattle.std.proofs.Common.{◌≡◌, ℕ, ◌+◌, false, Option, Some, None, Result, Ok, Err, List, [], ◌∷◌, length, slice_get, refl, ap, ◌∙◌, arith}
+use Rattle.std.proofs.Common.{◌≡◌, ℕ, ◌+◌, false, Option, Some, None, Result, Ok, Err, List, [], ◌∷◌, length, slice_get}
+use Rattle.std.proofs.Common.{refl, ap, ◌∙◌, arith}
 use Rattle.std.specs.List.{concat}
 use Rattle.plc_lang.specs.declared.syntax.Primitive.{Primitive}
 use Rattle.plc_lang.specs.declared.syntax.Ghost.{Ghost}
@@ -14,19 +15,25 @@ use Rattle.plc_syntax.specs.Trees.{Placed, InitialTree, WatchTree, UseHazard, Us
 use Rattle.plc_scope.specs.declared.fault.ParseFault.{ParseFault}
 use Rattle.plc_scope.specs.declared.scope.Scope.{Scope}
 use Rattle.plc_scope.specs.declared.binding.Binding.TheVariants.{Taken}
-use Rattle.plc_scope.specs.Scope.{◌>>=◌, first_scope, declared, protecting_at, without_pointer_at}
+use Rattle.plc_scope.specs.Scope.{◌>>=◌, first_scope, declared, role_as, as_protecting, as_without_pointer}
 use Rattle.plc_scope.specs.Primitives.{initial_means}
 use Rattle.plc_scope.proofs.Holds.{Has, has_along, next}
 use Rattle.plc_outparse.proofs.Fits.{at_start}
 use Rattle.plc_parse.specs.declared.unit.Unit.{Unit as FileUnit}
 use Rattle.plc_parse.specs.Growth.{KeepsLists}
 use Rattle.plc_parse.specs.Fit.{WatchesDeclared}
-use Rattle.plc_parse.specs.Meaning.{field_means, shared_means, function_means, ghost_means, listed, initials_mean, watch_means, init_means, placed_op_means, outlined_means, file_means, file_from, retire}
+use Rattle.plc_parse.specs.Meaning.{field_means, shared_means, function_means, ghost_means, listed, initials_mean}
+use Rattle.plc_parse.specs.Meaning.{watch_means, init_means, placed_op_means, outlined_means, file_means, file_from}
+use Rattle.plc_parse.specs.Meaning.{retire}
 use Rattle.plc_parse.proofs.Holds.{EachOn, each_on}
-use Rattle.plc_parse.proofs.There.{Lists, AllThere, EachThere, each_there, kept_then, Named, named, FieldThere, field_there, SharedThere, shared_there, FunctionThere, function_there, after_retire, GhostThere, ghost_there, first_there}
+use Rattle.plc_parse.proofs.There.{Lists, AllThere, EachThere, each_there, kept_then, Named, named, FieldThere}
+use Rattle.plc_parse.proofs.There.{field_there, SharedThere, shared_there, FunctionThere, function_there, after_retire}
+use Rattle.plc_parse.proofs.There.{GhostThere, ghost_there, first_there}
 use Rattle.plc_parse.proofs.Numbering.{Numbered, nothing, numbered_range}
-use Rattle.plc_parse.proofs.Sorted.{IsProtecting, IsWithoutPointer, protecting_there, without_pointer_there, initial_sorted}
-use Rattle.plc_parse.proofs.SortedBlocks.{Step, forms_sorted, each_sorted, none_other, With, there_with, OpSorted, AfterOps, op_sorted}
+use Rattle.plc_parse.proofs.Sorted.{IsProtecting, IsWithoutPointer, protecting_there, without_pointer_there}
+use Rattle.plc_parse.proofs.Sorted.{initial_sorted}
+use Rattle.plc_parse.proofs.SortedBlocks.{Step, forms_sorted, each_sorted, none_other, With, there_with, OpSorted}
+use Rattle.plc_parse.proofs.SortedBlocks.{AfterOps, op_sorted}
 use Rattle.plc_parse.proofs.Outlined.{outlined_fits}
 
 -- ---- the observer and `init`
@@ -39,9 +46,9 @@ IsWatched d (Epoch e l) = IsWithoutPointer d e × IsWithoutPointer d l
 
 watch_there : (d : Lists) (s : Scope) (w : Option WatchTree) → AllThere d s → Has (IsWatched d) (watch_means s w)
 watch_there d s None h = tt
-watch_there d s (Some (UseHazard f)) h = next (IsProtecting d) (IsWatched d) (protecting_at s f) _ (protecting_there d s h f) (λ g a. a)
-watch_there d s (Some (UseEpoch e l)) h = next (IsWithoutPointer d) (IsWatched d) (without_pointer_at s e) _ (without_pointer_there d s h e) (λ f a.
-    next (IsWithoutPointer d) (IsWatched d) (without_pointer_at s l) _ (without_pointer_there d s h l) (λ g b. (a, b)))
+watch_there d s (Some (UseHazard f)) h = next (IsProtecting d) (IsWatched d) (role_as as_protecting s f) _ (protecting_there d s h f) (λ g a. a)
+watch_there d s (Some (UseEpoch e l)) h = next (IsWithoutPointer d) (IsWatched d) (role_as as_without_pointer s e) _ (without_pointer_there d s h e) (λ f a.
+    next (IsWithoutPointer d) (IsWatched d) (role_as as_without_pointer s l) _ (without_pointer_there d s h l) (λ g b. (a, b)))
 
 -- whatever else is declared
 declared_in : (file : File) (d : Lists) (o : Observer) → file.funcs ≡ d.funcs → IsWatched d o → WatchesDeclared file o

@@ -1,16 +1,13 @@
 -- What else tokens are answered with than the unit that they spell, and that the answer is one.
-use Rattle.std.specs.Prelude.{◌≡◌, ◌≢◌, ◌+◌, ℕ, List, map, Result, Ok, Err}
+use Rattle.std.specs.Prelude.{◌≡◌, ◌≢◌, ◌+◌, ℕ, List, Result, Err}
 use Rattle.plc_lex.specs.declared.token.Token.{Token}
 use Rattle.plc_base.specs.declared.limits.What1.TheVariants as limits
 use Rattle.plc_base.specs.Limits.{most}
-use Rattle.plc_syntax.specs.Trees.{FileTree}
-use Rattle.plc_syntax.specs.Syntax.{kinds, AreOfFile}
-use Rattle.plc_syntax.specs.Nesting.{NoneTooDeep}
+use Rattle.plc_syntax.specs.Syntax.{kinds}
 use Rattle.plc_syntax.specs.Stops.{SyntaxFaultAt, NestingFaultAt}
 use Rattle.plc_scope.specs.declared.fault.ParseFault.{ParseFault}
 use Rattle.plc_scope.specs.declared.fault.ParseFault.TheVariants as faults
 use Rattle.plc_parse.specs.declared.unit.Unit.{Unit as FileUnit}
-use Rattle.plc_parse.specs.Meaning.{file_means}
 use Rattle.plc_parse.specs.Units.{Means, AreRead, IsUnitOf}
 
 -- the fault that tokens are answered with; memory may run out anywhere

@@ -16,24 +16,23 @@ use Rattle.plc_lang.specs.Statements.{Statements, Empty, Then, Blocks, NoBlock, 
 use Rattle.plc_auto.specs.declared.observer.Observer.{Observer}
 use Rattle.plc_auto.specs.declared.observer.Observer.TheVariants.{Plain, Hazard, Epoch}
 use Rattle.plc_syntax.specs.Trees.{Text, Placed, FieldTree, PointerField as PointerFieldTree}
-use Rattle.plc_syntax.specs.Trees.{DataField as DataFieldTree}
-use Rattle.plc_syntax.specs.Trees.{FunctionTree, Declares, WatchTree, UseHazard, UseEpoch, OneOf, OfThreads, GhostTree}
-use Rattle.plc_syntax.specs.Trees.{Auxiliary as AuxiliaryTree, InitialTree, PrimitiveTree, StatementTree}
-use Rattle.plc_syntax.specs.Trees.{PrimitiveStatement, AtomicStatement, CallStatement, IfStatement, ChooseStatement}
-use Rattle.plc_syntax.specs.Trees.{LoopStatement, BreakStatement, ReturnStatement, LabelStatement, BlockTree}
-use Rattle.plc_syntax.specs.Trees.{NoStatement, Then as ThenStatement, ElseTree, NoElse, ElseBlock, OrTree, NoOr}
-use Rattle.plc_syntax.specs.Trees.{OrBlock, OpTree, Operates, OutlineTree, FileTree}
+use Rattle.plc_syntax.specs.Trees.{DataField as DataFieldTree, FunctionTree, Declares, WatchTree, UseHazard, UseEpoch}
+use Rattle.plc_syntax.specs.Trees.{OneOf, OfThreads, GhostTree, Auxiliary as AuxiliaryTree, InitialTree, PrimitiveTree}
+use Rattle.plc_syntax.specs.Trees.{StatementTree, PrimitiveStatement, AtomicStatement, CallStatement, IfStatement}
+use Rattle.plc_syntax.specs.Trees.{ChooseStatement, LoopStatement, BreakStatement, ReturnStatement, LabelStatement}
+use Rattle.plc_syntax.specs.Trees.{BlockTree, NoStatement, Then as ThenStatement, ElseTree, NoElse, ElseBlock, OrTree}
+use Rattle.plc_syntax.specs.Trees.{NoOr, OrBlock, OpTree, Operates, OutlineTree, FileTree}
 use Rattle.plc_scope.specs.declared.fault.ParseFault.{ParseFault}
 use Rattle.plc_scope.specs.declared.fault.ParseFault.TheVariants as faults
 use Rattle.plc_scope.specs.declared.scope.Scope.{Scope}
 use Rattle.plc_scope.specs.declared.binding.Binding.TheVariants.{Taken, Shared, PointerField, DataField, Function}
 use Rattle.plc_scope.specs.declared.binding.Binding.TheVariants.{Auxiliary, Value}
 use Rattle.plc_scope.specs.Scope.{◌>>=◌, first_scope, declared, declared_label, declared_local, declared_parameter}
-use Rattle.plc_scope.specs.Scope.{without_locals, protecting_at, without_pointer_at}
+use Rattle.plc_scope.specs.Scope.{without_locals, role_as, as_protecting, as_without_pointer}
 use Rattle.plc_scope.specs.Limits.{within_limit, stands_at}
 use Rattle.plc_scope.specs.Primitives.{primitive_means, initial_means, condition_means, call_means}
 use Rattle.plc_logic.specs.declared.clause.Outline.{Outline}
-use Rattle.plc_outparse.specs.Meaning.{outline_means}
+use Rattle.plc_outparse.specs.Meaning.{in_turn, outline_means}
 use Rattle.plc_parse.specs.declared.unit.Unit.{Unit as FileUnit}
 
 -- ---- atomic blocks and `init`
@@ -75,10 +74,6 @@ forms_mean means n has_new (x ∷ xs) = do
 abbrev pub atomic_means : Scope → List (Placed PrimitiveTree) → Result (List Primitive) ParseFault
 atomic_means s ps = forms_mean (primitive_means s) 0 false ps
 
--- the primitives of `init`
-abbrev pub initials_mean : Scope → List (Placed InitialTree) → Result (List Primitive) ParseFault
-initials_mean s is = forms_mean (initial_means s) 0 false is
-
 -- ---- statements; the line of each is that of its first token
 
 -- the line of the token at a place
@@ -99,19 +94,13 @@ label_means s n = within_limit (length s.labels) limits.Labels (do
 -- the label of a call
 abbrev pub during_means : Scope → Option (Placed Text) → Result (Option ℕ × Scope) ParseFault
 during_means s None = Ok (None, s)
-during_means s (Some n) = do
-  l ← label_means s n
-  Ok (Some l.0, l.1)
+during_means s (Some n) = label_means s n >>= λ l. Ok (Some l.0, l.1)
 
 -- a statement at its place, within a loop or not, and blocks of statements; labels stay declared after them
 abbrev mutual
   pub statement_means : List ℕ → Scope → Bool → ℕ → StatementTree → Result (Statement × Scope) ParseFault
-  statement_means lines s in_loop at (PrimitiveStatement p) = do
-    k ← primitive_means s p
-    Ok (one_or_skip k, s)
-  statement_means lines s in_loop at (AtomicStatement ps) = do
-    ks ← atomic_means s ps
-    Ok (Atomic ks, s)
+  statement_means lines s in_loop at (PrimitiveStatement p) = primitive_means s p >>= λ k. Ok (one_or_skip k, s)
+  statement_means lines s in_loop at (AtomicStatement ps) = atomic_means s ps >>= λ ks. Ok (Atomic ks, s)
   statement_means lines s in_loop at (CallStatement f a d) = do
     c ← call_means s f a
     l ← during_means s d
@@ -126,15 +115,11 @@ abbrev mutual
     y ← statements_mean lines x.1 in_loop b
     z ← or_means lines y.1 in_loop os
     Ok (Choose (And x.0 (And y.0 z.0)), z.1)
-  statement_means lines s in_loop at (LoopStatement b) = do
-    x ← statements_mean lines s true b
-    Ok (Loop x.0, x.1)
+  statement_means lines s in_loop at (LoopStatement b) = statements_mean lines s true b >>= λ x. Ok (Loop x.0, x.1)
   statement_means lines s true at BreakStatement = Ok (Break, s)
   statement_means lines s false at BreakStatement = Err (faults.Undeclared at)
   statement_means lines s in_loop at ReturnStatement = Ok (Return, s)
-  statement_means lines s in_loop at (LabelStatement n) = do
-    l ← label_means s n
-    Ok (Label l.0, l.1)
+  statement_means lines s in_loop at (LabelStatement n) = label_means s n >>= λ l. Ok (Label l.0, l.1)
 
   -- statements in order
   pub statements_mean : List ℕ → Scope → Bool → BlockTree → Result (Statements × Scope) ParseFault
@@ -159,6 +144,15 @@ abbrev mutual
 
 -- ---- declarations; n counts those before, and the limit's place is the first token of the declaration past it
 
+-- declarations of one kind in order, each with the number of those before
+abbrev pub listed : {X Y : Type 0} → (Scope → ℕ → X → Result (Y × Scope) ParseFault) → Scope → ℕ → List X
+    → Result (List Y × Scope) ParseFault
+listed means s n [] = Ok ([], s)
+listed means s n (x ∷ xs) = do
+  first ← means s n x
+  others ← listed means first.1 (n + 1) xs
+  Ok (first.0 ∷ others.0, others.1)
+
 -- a field of the struct
 abbrev pub field_means : Scope → ℕ → FieldTree → Result (Field × Scope) ParseFault
 field_means s n (PointerFieldTree name) = within_limit n limits.Fields (do
@@ -182,18 +176,9 @@ function_means s n (Declares name takes_pointer) = within_limit n limits.Calls (
 
 -- a value of auxiliary field g, with k before it; it is its name alone, so a name that is there is the fault before
 -- the limit
-abbrev pub value_means : Scope → ℕ → ℕ → Placed Text → Result (ℕ × Scope) ParseFault
-value_means s g k name = do
-  t ← declared s name (Value g k)
-  within_limit k limits.Values (Ok (length s.names.names, t))
-
--- values with k before them
-abbrev pub values_mean : Scope → ℕ → ℕ → List (Placed Text) → Result (List ℕ × Scope) ParseFault
-values_mean s g k [] = Ok ([], s)
-values_mean s g k (name ∷ names) = do
-  first ← value_means s g k name
-  others ← values_mean first.1 g (k + 1) names
-  Ok (first.0 ∷ others.0, others.1)
+abbrev pub value_means : ℕ → Scope → ℕ → Placed Text → Result (ℕ × Scope) ParseFault
+value_means g s k name =
+    declared s name (Value g k) >>= λ t. within_limit k limits.Values (Ok (length s.names.names, t))
 
 -- an auxiliary field: a thread, or one of its values
 abbrev pub ghost_means : Scope → ℕ → GhostTree → Result (Ghost × Scope) ParseFault
@@ -202,62 +187,36 @@ ghost_means s n (AuxiliaryTree name OfThreads) = within_limit n limits.Ghosts (d
   Ok (record { name = length s.names.names; values = [] }, t))
 ghost_means s n (AuxiliaryTree name (OneOf v vs)) = within_limit n limits.Ghosts (do
   t ← declared s name (Auxiliary n false)
-  first ← value_means t n 0 v
-  others ← values_mean first.1 n 1 vs
-  Ok (record { name = length s.names.names; values = first.0 ∷ others.0 }, others.1))
-
--- declarations of one kind in order, each with the number of those before
-abbrev pub listed : {X Y : Type 0} → (Scope → ℕ → X → Result (Y × Scope) ParseFault) → Scope → ℕ → List X
-    → Result (List Y × Scope) ParseFault
-listed means s n [] = Ok ([], s)
-listed means s n (x ∷ xs) = do
-  first ← means s n x
-  others ← listed means first.1 (n + 1) xs
-  Ok (first.0 ∷ others.0, others.1)
+  values ← listed (value_means n) t 0 (v ∷ vs)
+  Ok (record { name = length s.names.names; values = values.0 }, values.1))
 
 -- a function with a pointer for `hazard`, two without for `epoch`; `plain` where the file names none
 abbrev pub watch_means : Scope → Option WatchTree → Result Observer ParseFault
 watch_means s None = Ok Plain
-watch_means s (Some (UseHazard f)) = do
-  g ← protecting_at s f
-  Ok (Hazard g)
+watch_means s (Some (UseHazard f)) = role_as as_protecting s f >>= λ g. Ok (Hazard g)
 watch_means s (Some (UseEpoch e l)) = do
-  f ← without_pointer_at s e
-  g ← without_pointer_at s l
+  f ← role_as as_without_pointer s e
+  g ← role_as as_without_pointer s l
   Ok (Epoch f g)
 
 -- nothing where no `init` stands
 abbrev pub init_means : Scope → Option (List (Placed InitialTree)) → Result (List Primitive) ParseFault
 init_means s None = Ok []
-init_means s (Some is) = initials_mean s is
+init_means s (Some is) = forms_mean (initial_means s) 0 false is
 
 -- ---- operations
-
--- parameters in order
-abbrev pub parameters_mean : Scope → List (Placed Text) → Result Scope ParseFault
-parameters_mean s [] = Ok s
-parameters_mean s (name ∷ names) = do
-  t ← declared_parameter s name
-  parameters_mean t names
 
 -- a local
 abbrev pub local_means : Scope → FieldTree → Result Scope ParseFault
 local_means s (PointerFieldTree name) = declared_local s name true
 local_means s (DataFieldTree name) = declared_local s name false
 
--- locals in order
-abbrev pub locals_mean : Scope → List FieldTree → Result Scope ParseFault
-locals_mean s [] = Ok s
-locals_mean s (l ∷ ls) = do
-  t ← local_means s l
-  locals_mean t ls
-
 -- an operation on a line: its name, its parameters, its locals and its statements
 abbrev pub op_means : List ℕ → ℕ → Scope → ℕ → OpTree → Result (Op × Scope) ParseFault
 op_means lines line s n (Operates name parameters locals body) = within_limit n limits.Ops (do
   t ← declared s name Taken
-  p ← parameters_mean t parameters
-  l ← locals_mean p locals
+  p ← in_turn declared_parameter t parameters
+  l ← in_turn local_means p locals
   b ← statements_mean lines l false body
   Ok (record { name = length s.names.names; locals = l.locals; body = b.0; line = line }, without_locals b.1))
 

@@ -1,12 +1,10 @@
 -- Which unit tokens spell.
-use Rattle.std.specs.Prelude.{◌≡◌, ◌≢◌, ◌+◌, ℕ, List, map, Result, Ok, Err}
+use Rattle.std.specs.Prelude.{◌≡◌, ℕ, List, map, Result, Ok}
 use Rattle.plc_lex.specs.declared.token.Token.{Token}
 use Rattle.plc_base.specs.declared.limits.What1.TheVariants as limits
-use Rattle.plc_base.specs.Limits.{most}
 use Rattle.plc_syntax.specs.Trees.{FileTree}
 use Rattle.plc_syntax.specs.Syntax.{kinds, AreOfFile}
 use Rattle.plc_syntax.specs.Nesting.{NoneTooDeep}
-use Rattle.plc_syntax.specs.Stops.{SyntaxFaultAt, NestingFaultAt}
 use Rattle.plc_scope.specs.declared.fault.ParseFault.{ParseFault}
 use Rattle.plc_scope.specs.declared.fault.ParseFault.TheVariants as faults
 use Rattle.plc_parse.specs.declared.unit.Unit.{Unit as FileUnit}

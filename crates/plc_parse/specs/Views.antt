@@ -35,9 +35,7 @@ pub record DeclaresLocals {A : Type 0} (meant : Result Scope ParseFault) (old ne
 -- what a form at a place means, after the primitives before it
 abbrev pub with_form : List Primitive → Bool → ℕ → Result (Option Primitive) ParseFault
     → Result (List Primitive × Bool) ParseFault
-with_form ks has_new at m = do
-  k ← counted (length ks) has_new at m
-  Ok (ks ++ before k [], has_new || allocates k)
+with_form ks has_new at m = counted (length ks) has_new at m >>= λ k. Ok (ks ++ before k [], has_new || allocates k)
 
 -- the declarations before those of auxiliary fields, as the definitions have them
 abbrev pub declared_of : Declared → DeclaredParts
@@ -50,12 +48,9 @@ front_of f = (declared_of f.declared, f.observer, f.ghosts, f.init)
 -- the blocks of a choice whose first two are known
 unfoldable pub choices_mean : List ℕ → Scope → Bool → Statements → Statements → OrTree
     → Result (Blocks × Scope) ParseFault
-choices_mean lines s in_loop first second os = do
-  others ← or_means lines s in_loop os
-  Ok (And first (And second others.0), others.1)
+choices_mean lines s in_loop first second os =
+    or_means lines s in_loop os >>= λ others. Ok (And first (And second others.0), others.1)
 
 -- the values of an auxiliary field whose first is known
 unfoldable pub values_with : Scope → ℕ → ℕ → List (Placed Text) → Result (List ℕ × Scope) ParseFault
-values_with s g first names = do
-  others ← values_mean s g 1 names
-  Ok (first ∷ others.0, others.1)
+values_with s g first names = values_mean s g 1 names >>= λ others. Ok (first ∷ others.0, others.1)

@@ -1,5 +1,7 @@
 -- The text of tokens, each of which bytes can spell, spells these tokens.
-use Rattle.std.proofs.Common.{◌≡◌, ◌==◌, ◌&&◌, ◌+◌, ◌-◌, ◌*◌, ◌/◌, ◌%◌, ◌<◌, ◌≤◌, ◌^◌, ℕ, Bool, true, false, not, cond, nat_le, nat_lt, List, [], ◌∷◌, ◌++◌, length, take, decimal, Option, Result, Ok, Err, refl, sym, ap, ◌∙◌, subst, arith, length-append, eq-eqb}
+use Rattle.std.proofs.Common.{◌≡◌, ◌==◌, ◌&&◌, ◌+◌, ◌-◌, ◌*◌, ◌/◌, ◌%◌, ◌<◌, ◌≤◌, ◌^◌, ℕ, Bool, true, false, not, cond}
+use Rattle.std.proofs.Common.{nat_le, nat_lt, List, [], ◌∷◌, ◌++◌, length, take, decimal, Option, Result, Ok, Err, refl}
+use Rattle.std.proofs.Common.{sym, ap, ◌∙◌, subst, arith, length-append, eq-eqb}
 use Rattle.std.specs.List.{AllByRecursion, prefix_len}
 use Rattle.std.proofs.Math.Seq.{take-append_seam, drop-append_seam}
 use Rattle.std.proofs.lemmas.Bool.{and_parts, ne_eqb, le-leb, lt-leb, leb-true, le-ltb, lt-ltb}
@@ -13,8 +15,11 @@ use Rattle.plc_lex.specs.declared.token.Keyword.{Keyword}
 use Rattle.plc_lex.specs.declared.token.Keyword.TheVariants as words
 use Rattle.plc_lex.specs.declared.token.Symbol.{Symbol as Punctuation}
 use Rattle.plc_lex.specs.declared.token.Symbol.TheVariants as symbols
-use Rattle.plc_lex.specs.Characters.{is_space, is_letter, is_digit, in_name, keywords, keyword_of, symbols_longest_first, symbol_of}
-use Rattle.plc_lex.specs.Spelling.{Refusal, long_name, bad_number, word_of, name_or_word, value, is_plain, name_at, number_at, symbol_at, token_at, is_comment, is_blank, next_line, token_from, Spells, at_end, after_space, token}
+use Rattle.plc_lex.specs.Characters.{is_space, is_letter, is_digit, in_name, keywords, keyword_of}
+use Rattle.plc_lex.specs.Characters.{symbols_longest_first, symbol_of}
+use Rattle.plc_lex.specs.Spelling.{Refusal, long_name, bad_number, word_of, name_or_word, value, is_plain, name_at}
+use Rattle.plc_lex.specs.Spelling.{number_at, symbol_at, token_at, is_comment, is_blank, next_line, token_from, Spells}
+use Rattle.plc_lex.specs.Spelling.{at_end, after_space, token}
 use Rattle.plc_lex.specs.Stops.{IsName, IsKind}
 use Rattle.plc_syntax.specs.Syntax.{kinds}
 use Rattle.plc_print.specs.Text.{token_text, after, text_of}

@@ -7,7 +7,7 @@ use Rattle.plc_lex.specs.Spelling.{Spells}
 use Rattle.plc_lex.specs.Stops.{IsKind, IsToken}
 use Rattle.plc_lex.proofs.EachToken.{each_token}
 use Rattle.plc_syntax.specs.Trees.{FileTree, file_tokens}
-use Rattle.plc_syntax.specs.Syntax.{kinds}
+use Rattle.plc_syntax.specs.Syntax.{kinds, AreOfFile}
 use Rattle.plc_syntax.specs.Nesting.{NoneTooDeep}
 use Rattle.plc_parse.specs.declared.unit.Unit.{Unit as FileUnit}
 use Rattle.plc_parse.specs.Meaning.{file_means}
@@ -17,7 +17,6 @@ use Rattle.plc_print.specs.Laws.{SameUpToLines, CanonicalTreesReadBack, TextIsRe
 use Rattle.plc_print.proofs.KeptNesting.{kinds_kept, nesting_kept}
 use Rattle.plc_scope.specs.declared.fault.ParseFault.{ParseFault}
 use Rattle.plc_scope.proofs.Alike.{Alike}
-use Rattle.plc_syntax.specs.Syntax.{AreOfFile}
 use Rattle.plc_syntax.proofs.Unplaced.{unplaced_file}
 use Rattle.plc_tree.proofs.Places.{file_read}
 use Rattle.plc_print.proofs.NormalTrees.{normal_file}

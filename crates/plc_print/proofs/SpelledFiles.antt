@@ -1,5 +1,6 @@
 -- A file that is read is spelled by its normal tree without places, and the normal tree means the same unit.
-use Rattle.std.proofs.Common.{◌≡◌, ℕ, zero, suc, ◌+◌, true, false, Option, Some, None, Result, Ok, Err, List, [], ◌∷◌, map, filter, slice_get, refl, sym, ap, ◌∙◌, subst, arith}
+use Rattle.std.proofs.Common.{◌≡◌, ℕ, zero, suc, ◌+◌, true, false, Option, Some, None, Result, Ok, Err, List, [], ◌∷◌}
+use Rattle.std.proofs.Common.{map, filter, slice_get, refl, sym, ap, ◌∙◌, subst, arith}
 use Rattle.plc_auto.specs.declared.observer.Observer.{Observer}
 use Rattle.plc_lang.specs.declared.syntax.File.{File}
 use Rattle.plc_lang.specs.declared.syntax.Field.{Field}
@@ -7,17 +8,21 @@ use Rattle.plc_lang.specs.declared.syntax.Func.{Func}
 use Rattle.plc_lang.specs.declared.syntax.Ghost.{Ghost}
 use Rattle.plc_lang.specs.declared.syntax.Op.{Op}
 use Rattle.plc_lang.specs.declared.syntax.Primitive.{Primitive}
-use Rattle.plc_syntax.specs.Trees.{Text, Placed, FieldTree, FunctionTree, WatchTree, UseHazard, UseEpoch, GhostTree, InitialTree, OpTree, OutlineTree, FileTree}
-use Rattle.plc_syntax.proofs.Unplaced.{unplaced, unplaced_by, unplaced_maybe, unplaced_names, unplaced_field, unplaced_function, unplaced_watch, unplaced_ghost, unplaced_initial, unplaced_sets, unplaced_op, unplaced_outline, unplaced_file}
+use Rattle.plc_syntax.specs.Trees.{Text, Placed, FieldTree, FunctionTree, WatchTree, UseHazard, UseEpoch, GhostTree}
+use Rattle.plc_syntax.specs.Trees.{InitialTree, OpTree, OutlineTree, FileTree}
+use Rattle.plc_syntax.proofs.Unplaced.{unplaced, unplaced_by, unplaced_maybe, unplaced_names, unplaced_field}
+use Rattle.plc_syntax.proofs.Unplaced.{unplaced_function, unplaced_watch, unplaced_ghost, unplaced_initial}
+use Rattle.plc_syntax.proofs.Unplaced.{unplaced_sets, unplaced_op, unplaced_outline, unplaced_file}
 use Rattle.plc_scope.specs.declared.fault.ParseFault.{ParseFault}
 use Rattle.plc_scope.specs.declared.scope.Scope.{Scope}
 use Rattle.plc_scope.specs.declared.binding.Binding.{Binding}
 use Rattle.plc_scope.specs.declared.binding.Binding.TheVariants.{Taken, Function}
-use Rattle.plc_scope.specs.Scope.{◌>>=◌, first_scope, declared, protecting_at, without_pointer_at}
+use Rattle.plc_scope.specs.Scope.{◌>>=◌, first_scope, declared, role_as, as_protecting, as_without_pointer}
 use Rattle.plc_scope.specs.Primitives.{initial_means}
 use Rattle.plc_logic.specs.declared.clause.Outline.{Outline}
 use Rattle.plc_parse.specs.declared.unit.Unit.{Unit as FileUnit}
-use Rattle.plc_parse.specs.Meaning.{listed, field_means, shared_means, function_means, ghost_means, watch_means, initials_mean, init_means, placed_op_means, outlined_means, retire, file_means}
+use Rattle.plc_parse.specs.Meaning.{listed, field_means, shared_means, function_means, ghost_means, watch_means}
+use Rattle.plc_parse.specs.Meaning.{initials_mean, init_means, placed_op_means, outlined_means, retire, file_means}
 use Rattle.plc_scope.proofs.Holds.{Has, has_along, next}
 use Rattle.plc_print.specs.Canonical.{watch_tree, initial_tree, init_tree, canonical_tree}
 use Rattle.plc_lang.specs.Names.{name_at}
@@ -28,7 +33,9 @@ use Rattle.plc_print.proofs.SpelledNames.{Bound, IsBound, Ends, number_named, na
 use Rattle.plc_print.proofs.SpelledPrimitives.{IsInitial, initial_found}
 use Rattle.plc_print.proofs.GrowingScopes.{ends_before, declared_found}
 use Rattle.plc_print.proofs.SpelledForms.{kept, FormsRead, forms_found}
-use Rattle.plc_print.proofs.SpelledDeclarations.{listed_found, FieldThere, field_spelled, field_found, SharedThere, shared_found, FunctionThere, function_spelled, function_declared, GhostThere, ghost_spelled, ghost_declared}
+use Rattle.plc_print.proofs.SpelledDeclarations.{listed_found, FieldThere, field_spelled, field_found, SharedThere}
+use Rattle.plc_print.proofs.SpelledDeclarations.{shared_found, FunctionThere, function_spelled, function_declared}
+use Rattle.plc_print.proofs.SpelledDeclarations.{GhostThere, ghost_spelled, ghost_declared}
 use Rattle.plc_print.proofs.SpelledOperations.{ManyOps, ops_found}
 use Rattle.plc_print.proofs.SpelledOutlines.{OutlineRead, outline_found}
 
@@ -50,10 +57,10 @@ module _ (file : File) (s : Scope) (bound : Bound file s) where
   watch_found : (w : Option WatchTree) → Has (WatchRead w) (watch_means s w)
   watch_found None = λ e. refl
   watch_found (Some (UseHazard f)) =
-      next _ (WatchRead (Some (UseHazard f))) (protecting_at s f) _ (names_found file s f bound).protecting (λ g h e. ap (λ n. Some (UseHazard (bare n))) (h e))
+      next _ (WatchRead (Some (UseHazard f))) (role_as as_protecting s f) _ (names_found file s f bound).protecting (λ g h e. ap (λ n. Some (UseHazard (bare n))) (h e))
   watch_found (Some (UseEpoch n m)) =
-      next _ (WatchRead (Some (UseEpoch n m))) (without_pointer_at s n) _ (names_found file s n bound).without_pointer (λ f h.
-      next _ (WatchRead (Some (UseEpoch n m))) (without_pointer_at s m) _ (names_found file s m bound).without_pointer (λ g k e. rw (h e, k e) refl))
+      next _ (WatchRead (Some (UseEpoch n m))) (role_as as_without_pointer s n) _ (names_found file s n bound).without_pointer (λ f h.
+      next _ (WatchRead (Some (UseEpoch n m))) (role_as as_without_pointer s m) _ (names_found file s m bound).without_pointer (λ g k e. rw (h e, k e) refl))
 
   -- ---- `init`
 

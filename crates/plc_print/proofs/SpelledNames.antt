@@ -1,12 +1,14 @@
 -- Each name that is found in a scope is the name that the canonical text spells for what it stands for.
-use Rattle.std.proofs.Common.{◌≡◌, ◌==◌, ℕ, suc, ◌+◌, ◌<◌, Bool, true, false, cond, not, ◌&&◌, if◌then◌else◌, Option, Some, None, IfSome, option_map, List, [], ◌∷◌, length, slice_get, refl, sym, ap, ◌∙◌, subst, bytes_eq, nat_lt, arith}
+use Rattle.std.proofs.Common.{◌≡◌, ◌==◌, ℕ, suc, ◌+◌, ◌<◌, Bool, true, false, cond, not, ◌&&◌, if◌then◌else◌, Option}
+use Rattle.std.proofs.Common.{Some, None, IfSome, option_map, List, [], ◌∷◌, length, slice_get, refl, sym, ap, ◌∙◌}
+use Rattle.std.proofs.Common.{subst, bytes_eq, nat_lt, arith}
 use Rattle.std.specs.List.{prefix_len}
 use Rattle.std.proofs.lemmas.Bool.{eqb-true, ltb-true}
 use Rattle.std.proofs.lemmas.Option.{get_or_from_slice_get}
 use Rattle.std.proofs.lemmas.Slice.Eq.{bytes_eq-Decides}
 use Rattle.plc_base.specs.Functions.{is_retire}
 use Rattle.plc_base.specs.Names.{place_of}
-use Rattle.plc_lang.specs.Locals.{is_pointer}
+use Rattle.plc_lang.specs.Locals.{is_pointer, is_data}
 use Rattle.plc_lang.specs.declared.syntax.Field.{Field}
 use Rattle.plc_lang.specs.declared.syntax.Func.{Func}
 use Rattle.plc_lang.specs.declared.syntax.Ghost.{Ghost}
@@ -16,14 +18,21 @@ use Rattle.plc_lang.specs.declared.syntax.Var.TheVariants.{Shared as SharedVar, 
 use Rattle.plc_syntax.specs.Trees.{Text, Placed}
 use Rattle.plc_scope.specs.declared.scope.Scope.{Scope}
 use Rattle.plc_scope.specs.declared.binding.Binding.{Binding}
-use Rattle.plc_scope.specs.declared.binding.Binding.TheVariants.{Taken, Shared, PointerField, DataField, Function, Auxiliary, Value, LocalOnly}
+use Rattle.plc_scope.specs.declared.binding.Binding.TheVariants.{Taken, Shared, PointerField, DataField, Function}
+use Rattle.plc_scope.specs.declared.binding.Binding.TheVariants.{Auxiliary, Value, LocalOnly}
 use Rattle.plc_scope.specs.declared.binding.Role.{Role}
-use Rattle.plc_scope.specs.declared.binding.Role.TheVariants.{PointerVariable as pointer_variable, DataLocal as data_local, PointerField as pointer_field, DataField as data_field, Function as function, Auxiliary as auxiliary, Value as value, NoValue as no_value}
-use Rattle.plc_scope.specs.Scope.{known, needed, if_fits, role_at, binding_role, local_role, role_found, role_of, as_pointer, as_pointer_local, as_data, as_pointer_field, as_data_field, as_function, as_protecting, as_without_pointer, as_auxiliary, as_value_of, pointer_at, pointer_local_at, data_at, pointer_field_at, data_field_at, function_at, protecting_at, without_pointer_at, auxiliary_at, value_at}
+use Rattle.plc_scope.specs.declared.binding.Role.TheVariants.{PointerVariable as pointer_variable}
+use Rattle.plc_scope.specs.declared.binding.Role.TheVariants.{DataLocal as data_local, PointerField as pointer_field}
+use Rattle.plc_scope.specs.declared.binding.Role.TheVariants.{DataField as data_field, Function as function}
+use Rattle.plc_scope.specs.declared.binding.Role.TheVariants.{Auxiliary as auxiliary, Value as value}
+use Rattle.plc_scope.specs.declared.binding.Role.TheVariants.{NoValue as no_value}
+use Rattle.plc_scope.specs.Scope.{known, needed, if_fits, role_at, binding_role, local_role, role_found, role_of}
+use Rattle.plc_scope.specs.Scope.{as_pointer, as_pointer_local, as_data, as_pointer_field, as_data_field, as_function}
+use Rattle.plc_scope.specs.Scope.{as_protecting, as_without_pointer, as_auxiliary, as_value_of, role_as}
 use Rattle.plc_scope.proofs.Holds.{Has}
 use Rattle.plc_scope.proofs.Finds.{made_is, of_kind}
-use Rattle.plc_lang.specs.Names.{name_at, name_of, field_name, function_name, auxiliary_name, values_of, value_name, pointer_name, data_name, variable_name}
-use Rattle.plc_lang.specs.Locals.{is_data}
+use Rattle.plc_lang.specs.Names.{name_at, name_of, field_name, function_name, auxiliary_name, values_of, value_name}
+use Rattle.plc_lang.specs.Names.{pointer_name, data_name, variable_name}
 use Rattle.plc_print.proofs.Steps.{Within}
 
 -- ---- the place of a name
@@ -196,19 +205,19 @@ module _ (file : File) where
   -- what a name is found to be, whatever is wanted, is spelled by the name
   pub record NamesFound (s : Scope) (n : Placed Text) : Type 0 where
     pub any : Has (λ r. Ends s → RoleIs s.locals n.value r) (role_at s n)
-    pub pointer : Has (λ q. Ends s → variable_name file s.locals q ≡ n.value) (pointer_at s n)
-    pub pointer_local : Has (λ q. Ends s → pointer_name file s.locals q ≡ n.value) (pointer_local_at s n)
-    pub data_local : Has (λ x. Ends s → data_name file s.locals x ≡ n.value) (data_at s n)
-    pub pointer_field : Has (λ f. Ends s → field_name file f ≡ n.value) (pointer_field_at s n)
-    pub data_field : Has (λ f. Ends s → field_name file f ≡ n.value) (data_field_at s n)
-    pub function : Has (λ f. Ends s → function_name file f.0 ≡ n.value) (function_at s n)
-    pub protecting : Has (λ f. Ends s → function_name file f ≡ n.value) (protecting_at s n)
-    pub without_pointer : Has (λ f. Ends s → function_name file f ≡ n.value) (without_pointer_at s n)
-    pub auxiliary : Has (λ g. Ends s → auxiliary_name file g.0 ≡ n.value) (auxiliary_at s n)
-    pub value : (g : ℕ) → Has (λ v. Ends s → value_name file g v ≡ n.value) (value_at s g n)
+    pub pointer : Has (λ q. Ends s → variable_name file s.locals q ≡ n.value) (role_as as_pointer s n)
+    pub pointer_local : Has (λ q. Ends s → pointer_name file s.locals q ≡ n.value) (role_as as_pointer_local s n)
+    pub data_local : Has (λ x. Ends s → data_name file s.locals x ≡ n.value) (role_as as_data s n)
+    pub pointer_field : Has (λ f. Ends s → field_name file f ≡ n.value) (role_as as_pointer_field s n)
+    pub data_field : Has (λ f. Ends s → field_name file f ≡ n.value) (role_as as_data_field s n)
+    pub function : Has (λ f. Ends s → function_name file f.0 ≡ n.value) (role_as as_function s n)
+    pub protecting : Has (λ f. Ends s → function_name file f ≡ n.value) (role_as as_protecting s n)
+    pub without_pointer : Has (λ f. Ends s → function_name file f ≡ n.value) (role_as as_without_pointer s n)
+    pub auxiliary : Has (λ g. Ends s → auxiliary_name file g.0 ≡ n.value) (role_as as_auxiliary s n)
+    pub value : (g : ℕ) → Has (λ v. Ends s → value_name file g v ≡ n.value) (role_as (as_value_of g) s n)
 
   pub names_found : (s : Scope) (n : Placed Text) → Bound s → NamesFound s n
-  unfolding pointer_at pointer_local_at data_at pointer_field_at data_field_at function_at protecting_at without_pointer_at auxiliary_at value_at
+  unfolding role_as
   names_found s n bound =
       let role = role_of s n.value in
       let is = role_is s n.value bound in

@@ -12,19 +12,38 @@ use Rattle.plc_lang.specs.declared.syntax.Num.TheVariants as nums
 use Rattle.plc_lang.specs.declared.syntax.Primitive.{Primitive}
 use Rattle.plc_lang.specs.declared.syntax.Primitive.TheVariants as prims
 use Rattle.plc_lang.specs.declared.syntax.Cond.{Cond}
-use Rattle.plc_syntax.specs.Trees.{Text, Placed, PlaceTree, PlaceOf, AtomTree, NullAtom, NumberAtom, NameAtom, ValueTree, NullValue, NewValue, NumberValue, MarkValue, UnmarkValue, PlaceValue, SetTree, SetName, SetField, RefreshTree, RefreshName, RefreshField, GhostValueTree, NameGhost, MeGhost, NoneGhost, GhostSetTree, SetGhost, InitialTree, InitialSet, InitialGhost, Comparison, SameAs, OtherThan, LessThan, NotLessThan, TestTree, MarkedTest, UnmarkedTest, Compares, ConditionTree, TestCondition, RefreshCondition, CasCondition, PrimitiveTree, SetPrimitive, RefreshPrimitive, GhostPrimitive, ActivePrimitive, AssumePrimitive, SkipPrimitive, ArgumentTree, NoArgument, NullArgument, NameArgument, ActiveArgument}
+use Rattle.plc_syntax.specs.Trees.{Text, Placed, PlaceTree, PlaceOf, AtomTree, NullAtom, NumberAtom, NameAtom}
+use Rattle.plc_syntax.specs.Trees.{ValueTree, NullValue, NewValue, NumberValue, MarkValue, UnmarkValue, PlaceValue}
+use Rattle.plc_syntax.specs.Trees.{SetTree, SetName, SetField, RefreshTree, RefreshName, RefreshField, GhostValueTree}
+use Rattle.plc_syntax.specs.Trees.{NameGhost, MeGhost, NoneGhost, GhostSetTree, SetGhost, InitialTree, InitialSet}
+use Rattle.plc_syntax.specs.Trees.{InitialGhost, Comparison, SameAs, OtherThan, LessThan, NotLessThan, TestTree}
+use Rattle.plc_syntax.specs.Trees.{MarkedTest, UnmarkedTest, Compares, ConditionTree, TestCondition, RefreshCondition}
+use Rattle.plc_syntax.specs.Trees.{CasCondition, PrimitiveTree, SetPrimitive, RefreshPrimitive, GhostPrimitive}
+use Rattle.plc_syntax.specs.Trees.{ActivePrimitive, AssumePrimitive, SkipPrimitive, ArgumentTree, NoArgument}
+use Rattle.plc_syntax.specs.Trees.{NullArgument, NameArgument, ActiveArgument}
 use Rattle.plc_syntax.specs.Forms.{at_place}
-use Rattle.plc_syntax.proofs.Unplaced.{unplaced_label, unplaced_set, unplaced_refresh, unplaced_ghost_value, unplaced_ghost_set, unplaced_test, unplaced_condition, unplaced_primitive, unplaced_initial, unplaced_argument}
+use Rattle.plc_syntax.proofs.Unplaced.{unplaced_label, unplaced_set, unplaced_refresh, unplaced_ghost_value}
+use Rattle.plc_syntax.proofs.Unplaced.{unplaced_ghost_set, unplaced_test, unplaced_condition, unplaced_primitive}
+use Rattle.plc_syntax.proofs.Unplaced.{unplaced_initial, unplaced_argument}
 use Rattle.plc_scope.specs.declared.fault.ParseFault.{ParseFault}
 use Rattle.plc_scope.specs.declared.fault.ParseFault.TheVariants as faults
 use Rattle.plc_scope.specs.declared.scope.Scope.{Scope}
 use Rattle.plc_scope.specs.declared.binding.Role.{Role}
-use Rattle.plc_scope.specs.declared.binding.Role.TheVariants.{PointerVariable as pointer_variable, DataLocal as data_local, PointerField as pointer_field, DataField as data_field}
-use Rattle.plc_scope.specs.Scope.{◌>>=◌, role_at, needed, role_of, pointer_at, pointer_local_at, data_at, pointer_field_at, data_field_at, function_at, auxiliary_at, value_at, thread_at, as_thread}
-use Rattle.plc_scope.specs.Primitives.{pointer_value, data_value, value_into, pointer_atom, with_number, atom_into, set_means, refresh_from, refresh_name_means, refresh_means, ghost_value_means, ghost_set_means, pointer_test, relation, test_of, test_means, pointer_or_null, condition_means, primitive_means, initial_means, CallMeaning, argument_means, call_means}
+use Rattle.plc_scope.specs.declared.binding.Role.TheVariants.{PointerVariable as pointer_variable}
+use Rattle.plc_scope.specs.declared.binding.Role.TheVariants.{DataLocal as data_local, PointerField as pointer_field}
+use Rattle.plc_scope.specs.declared.binding.Role.TheVariants.{DataField as data_field}
+use Rattle.plc_scope.specs.Scope.{◌>>=◌, role_at, needed, role_of, as_thread, role_as, as_pointer, as_pointer_local}
+use Rattle.plc_scope.specs.Scope.{as_data, as_pointer_field, as_data_field, as_function, as_auxiliary, as_value_of}
+use Rattle.plc_scope.specs.Primitives.{pointer_value, data_value, value_into, pointer_atom, with_number, atom_into}
+use Rattle.plc_scope.specs.Primitives.{set_means, refresh_from, refresh_name_means, refresh_means, ghost_value_means}
+use Rattle.plc_scope.specs.Primitives.{ghost_set_means, pointer_test, relation, test_of, test_means, pointer_or_null}
+use Rattle.plc_scope.specs.Primitives.{condition_means, primitive_means, initial_means, CallMeaning, argument_means}
+use Rattle.plc_scope.specs.Primitives.{call_means}
 use Rattle.plc_scope.proofs.Holds.{Has, next, weaker, unless}
-use Rattle.plc_print.specs.Canonical.{set_tree, number_tree, ghost_value_tree, test_tree, primitive_tree, name_or_null, refresh_condition, condition_tree, argument_tree, initial_tree}
-use Rattle.plc_lang.specs.Names.{field_name, function_name, auxiliary_name, value_name, pointer_name, data_name, variable_name}
+use Rattle.plc_print.specs.Canonical.{set_tree, number_tree, ghost_value_tree, test_tree, primitive_tree, name_or_null}
+use Rattle.plc_print.specs.Canonical.{refresh_condition, condition_tree, argument_tree, initial_tree}
+use Rattle.plc_lang.specs.Names.{field_name, function_name, auxiliary_name, value_name, pointer_name, data_name}
+use Rattle.plc_lang.specs.Names.{variable_name}
 use Rattle.plc_print.specs.Outlines.{bare}
 use Rattle.plc_print.proofs.NormalTrees.{stays}
 use Rattle.plc_print.proofs.SpelledNames.{Bound, Ends, RoleIs, names_found}
@@ -41,17 +60,17 @@ module _ (file : File) (s : Scope) (bound : Bound file s) where
   abbrev IsField : Placed Text → FieldId → Type 0
   IsField n f = Ends file s → field_name file f ≡ n.value
 
-  by_pointer : {B : Type 0} (n : Placed Text) (Q : B → Type 0) (f : Var → Result B ParseFault) → ((q : Var) → IsVariable n q → Has Q (f q)) → Has Q (pointer_at s n >>= f)
-  by_pointer n Q f k = next (IsVariable n) Q (pointer_at s n) f (names_found file s n bound).pointer k
+  by_pointer : {B : Type 0} (n : Placed Text) (Q : B → Type 0) (f : Var → Result B ParseFault) → ((q : Var) → IsVariable n q → Has Q (f q)) → Has Q (role_as as_pointer s n >>= f)
+  by_pointer n Q f k = next (IsVariable n) Q (role_as as_pointer s n) f (names_found file s n bound).pointer k
 
-  by_data : {B : Type 0} (n : Placed Text) (Q : B → Type 0) (f : ℕ → Result B ParseFault) → ((x : ℕ) → IsData n x → Has Q (f x)) → Has Q (data_at s n >>= f)
-  by_data n Q f k = next (IsData n) Q (data_at s n) f (names_found file s n bound).data_local k
+  by_data : {B : Type 0} (n : Placed Text) (Q : B → Type 0) (f : ℕ → Result B ParseFault) → ((x : ℕ) → IsData n x → Has Q (f x)) → Has Q (role_as as_data s n >>= f)
+  by_data n Q f k = next (IsData n) Q (role_as as_data s n) f (names_found file s n bound).data_local k
 
-  by_pointer_field : {B : Type 0} (n : Placed Text) (Q : B → Type 0) (f : FieldId → Result B ParseFault) → ((x : FieldId) → IsField n x → Has Q (f x)) → Has Q (pointer_field_at s n >>= f)
-  by_pointer_field n Q f k = next (IsField n) Q (pointer_field_at s n) f (names_found file s n bound).pointer_field k
+  by_pointer_field : {B : Type 0} (n : Placed Text) (Q : B → Type 0) (f : FieldId → Result B ParseFault) → ((x : FieldId) → IsField n x → Has Q (f x)) → Has Q (role_as as_pointer_field s n >>= f)
+  by_pointer_field n Q f k = next (IsField n) Q (role_as as_pointer_field s n) f (names_found file s n bound).pointer_field k
 
-  by_data_field : {B : Type 0} (n : Placed Text) (Q : B → Type 0) (f : FieldId → Result B ParseFault) → ((x : FieldId) → IsField n x → Has Q (f x)) → Has Q (data_field_at s n >>= f)
-  by_data_field n Q f k = next (IsField n) Q (data_field_at s n) f (names_found file s n bound).data_field k
+  by_data_field : {B : Type 0} (n : Placed Text) (Q : B → Type 0) (f : FieldId → Result B ParseFault) → ((x : FieldId) → IsField n x → Has Q (f x)) → Has Q (role_as as_data_field s n >>= f)
+  by_data_field n Q f k = next (IsField n) Q (role_as as_data_field s n) f (names_found file s n bound).data_field k
 
   -- ---- assignments
 
@@ -133,7 +152,7 @@ module _ (file : File) (s : Scope) (bound : Bound file s) where
   refresh_name_found : (n : Placed Text) (place : PlaceTree) → Has (AsRefresh n place) (refresh_name_means s n place)
   unfolding refresh_name_means
   refresh_name_found n place =
-      next (IsPointerLocal n) _ (pointer_local_at s n) _ (names_found file s n bound).pointer_local (λ p h.
+      next (IsPointerLocal n) _ (role_as as_pointer_local s n) _ (names_found file s n bound).pointer_local (λ p h.
       refresh_from_found p n place h)
 
   -- the primitive is spelled by this tree
@@ -157,9 +176,9 @@ module _ (file : File) (s : Scope) (bound : Bound file s) where
   no_thread (Some r) place f Q = tt
 
   ghost_value_found : (in_init : Bool) (g : ℕ) (thread : Bool) (v : GhostValueTree) → Has (IsGhostValue g v) (ghost_value_means s in_init g thread v)
-  unfolding thread_at
+  unfolding role_as
   ghost_value_found in_init g false (NameGhost n) =
-      next (λ v. Ends file s → value_name file g v ≡ n.value) _ (value_at s g n) _ ((names_found file s n bound).value g) (λ v f. (λ e. ap (λ n. NameGhost (bare n)) (f e)))
+      next (λ v. Ends file s → value_name file g v ≡ n.value) _ (role_as (as_value_of g) s n) _ ((names_found file s n bound).value g) (λ v f. (λ e. ap (λ n. NameGhost (bare n)) (f e)))
   ghost_value_found in_init g true (NameGhost n) = no_thread (role_of s n.value) n.at _ _
   ghost_value_found in_init g false (MeGhost i) = tt
   ghost_value_found false g true (MeGhost i) = (λ e. refl)
@@ -175,7 +194,7 @@ module _ (file : File) (s : Scope) (bound : Bound file s) where
   ghost_set_found : (in_init : Bool) (set : GhostSetTree) → Has (AsGhost set) (ghost_set_means s in_init set)
   unfolding ghost_set_means
   ghost_set_found in_init (SetGhost n f v) = by_pointer n _ _ (λ p h.
-      next (λ g. Ends file s → auxiliary_name file g.0 ≡ f.value) _ (auxiliary_at s f) _ (names_found file s f bound).auxiliary (λ g k.
+      next (λ g. Ends file s → auxiliary_name file g.0 ≡ f.value) _ (role_as as_auxiliary s f) _ (names_found file s f bound).auxiliary (λ g k.
       next (IsGhostValue g.0 v) _ (ghost_value_means s in_init g.0 g.1 v) _ (ghost_value_found in_init g.0 g.1 v) (λ w m.
       record {
         stands = λ e. rw (h e, k e, m e) refl;
@@ -301,5 +320,5 @@ module _ (file : File) (s : Scope) (bound : Bound file s) where
   pub call_found : (n : Placed Text) (a : ArgumentTree) → Has (IsCall n a) (call_means s n a)
   unfolding call_means
   call_found n a =
-      next (λ f. Ends file s → function_name file f.0 ≡ n.value) _ (function_at s n) _ (names_found file s n bound).function (λ f g.
+      next (λ f. Ends file s → function_name file f.0 ≡ n.value) _ (role_as as_function s n) _ (names_found file s n bound).function (λ f g.
       argument_found f.0 n f.1 a g)

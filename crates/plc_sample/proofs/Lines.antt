@@ -1,15 +1,16 @@
 -- A sample has as many lines as are said, one fewer where one is left out.
-use Rattle.std.proofs.Common.{◌≡◌, ◌≤◌, ◌<◌, ◌*◌, ◌+◌, ◌^◌, ◌%◌, ◌==◌, ℕ, suc, zero, Bool, true, false, cond, List, [], ◌∷◌, ◌++◌, refl, arith}
+use Rattle.std.proofs.Common.{◌≡◌, ◌≤◌, ◌<◌, ◌*◌, ◌+◌, ◌^◌, ◌%◌, ◌==◌, ℕ, suc, zero, Bool, true, false, cond, List, []}
+use Rattle.std.proofs.Common.{◌∷◌, ◌++◌, refl, arith}
 use Rattle.std.specs.Fmt.{decimal}
 use Rattle.std.proofs.lemmas.Bool.{eqb-true, eqb-false, ne_eqb}
 use Rattle.std.proofs.lemmas.Fmt.{decimal_by_steps}
 use Rattle.std.proofs.lemmas.List.Sums.{sum_by-cons, sum_by-append}
 use Rattle.plc_base.specs.Bounds.{most_copies}
 use Rattle.plc_sample.specs.Numbers.{sample_lines}
-use Rattle.plc_sample.specs.Sample.{declarations, operations, invariants, clauses, ending, numbered_byte, numbered, copies}
+use Rattle.plc_sample.specs.Sample.{declarations, operations, invariants, clauses, ending, numbered_byte, numbered}
+use Rattle.plc_sample.specs.Sample.{copies, whole_text, kept_byte, without_from, sample_text, lines_out}
 use Rattle.plc_lex.specs.Spelling.{next_line}
 use Rattle.plc_lex.specs.Stops.{line_feeds}
-use Rattle.plc_sample.specs.Sample.{whole_text, kept_byte, without_from, sample_text, lines_out}
 
 -- ---- line feeds one by one
 

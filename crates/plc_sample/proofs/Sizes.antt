@@ -1,11 +1,13 @@
 -- No sample is longer than a file may be.
-use Rattle.std.proofs.Common.{◌≡◌, ◌≤◌, ◌*◌, ◌==◌, ℕ, suc, zero, Bool, true, false, List, [], ◌∷◌, ◌++◌, length, refl, sym, subst, arith}
+use Rattle.std.proofs.Common.{◌≡◌, ◌≤◌, ◌*◌, ◌==◌, ℕ, suc, zero, Bool, true, false, List, [], ◌∷◌, ◌++◌, length, refl}
+use Rattle.std.proofs.Common.{sym, subst, arith}
 use Rattle.std.proofs.lemmas.List.{length-append}
 use Rattle.std.proofs.lemmas.Fmt.{length-decimal-le_succ}
 use Rattle.plc_base.specs.FileSizes.{largest_file}
 use Rattle.plc_base.specs.Bounds.{most_copies}
 use Rattle.plc_lex.specs.Spelling.{next_line}
-use Rattle.plc_sample.specs.Sample.{declarations, operations, invariants, clauses, ending, numbered_byte, numbered, copies, whole_text, kept_byte, without_from}
+use Rattle.plc_sample.specs.Sample.{declarations, operations, invariants, clauses, ending, numbered_byte, numbered}
+use Rattle.plc_sample.specs.Sample.{copies, whole_text, kept_byte, without_from}
 
 -- ---- a copy
 

@@ -3,9 +3,8 @@ ghost use Rattle.std.specs.Prelude.{◌≡◌, ◌≤◌, ◌+◌, ◌++◌, IfO
 ghost use Rattle.plc_base.specs.FileSizes.{largest_file};
 ghost use Rattle.plc_base.specs.Bounds.{most_copies};
 ghost use Rattle.plc_sample.specs.Numbers.{sample_lines};
-ghost use Rattle.plc_sample.specs.Sample.{whole_text, kept_byte, without_from, sample_text};
+ghost use Rattle.plc_sample.specs.Sample.{whole_text, kept_byte, without_from, sample_text, lines_out};
 ghost use Rattle.plc_lex.specs.Stops.{line_feeds};
-ghost use Rattle.plc_sample.specs.Sample.{lines_out};
 
 use crate::numbering::push_copies;
 use crate::parts::{clauses, declarations, ending, invariants, operations};

@@ -1,5 +1,6 @@
 -- Whether a form has a meaning, and which, doesn't depend on its places: they say only where a fault is told.
-use Rattle.std.proofs.Common.{◌≡◌, ◌==◌, ◌+◌, length, slice_get, ℕ, Bool, true, false, if◌then◌else◌, Option, Some, None, Result, Ok, Err, refl, sym, subst}
+use Rattle.std.proofs.Common.{◌≡◌, ◌==◌, ◌+◌, length, slice_get, ℕ, Bool, true, false, if◌then◌else◌, Option, Some}
+use Rattle.std.proofs.Common.{None, Result, Ok, Err, refl, subst}
 use Rattle.plc_base.specs.Functions.{is_retire}
 use Rattle.plc_base.specs.Limits.{most}
 use Rattle.plc_base.specs.Names.{place_of}
@@ -11,15 +12,15 @@ use Rattle.plc_lang.specs.declared.syntax.Arg.TheVariants as args
 use Rattle.plc_lang.specs.declared.syntax.Num.{Num}
 use Rattle.plc_lang.specs.declared.syntax.Primitive.TheVariants.{DataStore, DataTest}
 use Rattle.plc_lang.specs.declared.syntax.Var.{Var}
-use Rattle.plc_syntax.specs.Trees.{Text, Placed, PlaceTree, PlaceOf, AtomTree, NullAtom, NumberAtom, NameAtom, ValueTree}
-use Rattle.plc_syntax.specs.Trees.{NullValue, NewValue, NumberValue, MarkValue, UnmarkValue, PlaceValue, SetTree}
-use Rattle.plc_syntax.specs.Trees.{SetName, SetField, RefreshTree, RefreshName, RefreshField, GhostValueTree, NameGhost}
-use Rattle.plc_syntax.specs.Trees.{MeGhost, NoneGhost, GhostSetTree, SetGhost, InitialTree, InitialSet, InitialGhost}
-use Rattle.plc_syntax.specs.Trees.{Comparison, SameAs, OtherThan, LessThan, NotLessThan, TestTree, MarkedTest}
-use Rattle.plc_syntax.specs.Trees.{UnmarkedTest, Compares, ConditionTree, TestCondition, RefreshCondition, CasCondition}
-use Rattle.plc_syntax.specs.Trees.{PrimitiveTree, SetPrimitive, RefreshPrimitive, GhostPrimitive, ActivePrimitive}
-use Rattle.plc_syntax.specs.Trees.{AssumePrimitive, SkipPrimitive, ArgumentTree, NoArgument, NullArgument, NameArgument}
-use Rattle.plc_syntax.specs.Trees.{ActiveArgument}
+use Rattle.plc_syntax.specs.Trees.{Text, Placed, PlaceTree, PlaceOf, AtomTree, NullAtom, NumberAtom, NameAtom}
+use Rattle.plc_syntax.specs.Trees.{ValueTree, NullValue, NewValue, NumberValue, MarkValue, UnmarkValue, PlaceValue}
+use Rattle.plc_syntax.specs.Trees.{SetTree, SetName, SetField, RefreshTree, RefreshName, RefreshField, GhostValueTree}
+use Rattle.plc_syntax.specs.Trees.{NameGhost, MeGhost, NoneGhost, GhostSetTree, SetGhost, InitialTree, InitialSet}
+use Rattle.plc_syntax.specs.Trees.{InitialGhost, Comparison, SameAs, OtherThan, LessThan, NotLessThan, TestTree}
+use Rattle.plc_syntax.specs.Trees.{MarkedTest, UnmarkedTest, Compares, ConditionTree, TestCondition, RefreshCondition}
+use Rattle.plc_syntax.specs.Trees.{CasCondition, PrimitiveTree, SetPrimitive, RefreshPrimitive, GhostPrimitive}
+use Rattle.plc_syntax.specs.Trees.{ActivePrimitive, AssumePrimitive, SkipPrimitive, ArgumentTree, NoArgument}
+use Rattle.plc_syntax.specs.Trees.{NullArgument, NameArgument, ActiveArgument}
 use Rattle.plc_syntax.proofs.Unplaced.{unplaced, unplaced_label, unplaced_place, unplaced_atom, unplaced_value}
 use Rattle.plc_syntax.proofs.Unplaced.{unplaced_set, unplaced_refresh, unplaced_ghost_value, unplaced_ghost_set}
 use Rattle.plc_syntax.proofs.Unplaced.{unplaced_initial, unplaced_test, unplaced_condition, unplaced_primitive}
@@ -33,17 +34,17 @@ use Rattle.plc_scope.specs.declared.binding.Role.{Role}
 use Rattle.plc_scope.specs.declared.binding.Role.TheVariants.{PointerVariable as pointer_variable}
 use Rattle.plc_scope.specs.declared.binding.Role.TheVariants.{DataLocal as data_local, PointerField as pointer_field}
 use Rattle.plc_scope.specs.declared.binding.Role.TheVariants.{DataField as data_field}
-use Rattle.plc_scope.specs.Scope.{◌>>=◌, known, if_fits, needed, role_of, role_at, pointer_at, pointer_local_at, data_at}
-use Rattle.plc_scope.specs.Scope.{pointer_field_at, data_field_at, function_at, auxiliary_at, value_at, thread_at}
-use Rattle.plc_scope.specs.Scope.{if_new, with_name, declared, declared_label, declared_local, declared_parameter}
-use Rattle.plc_scope.specs.Scope.{may_name_local, has_local, local_number, most_locals, local_limit, with_local}
-use Rattle.plc_scope.specs.Scope.{protecting_at, without_pointer_at}
+use Rattle.plc_scope.specs.Scope.{◌>>=◌, known, if_fits, needed, role_of, role_at, role_as, as_pointer}
+use Rattle.plc_scope.specs.Scope.{as_pointer_local, as_data, as_pointer_field, as_data_field, as_function, as_auxiliary}
+use Rattle.plc_scope.specs.Scope.{as_value_of, as_thread, if_new, with_name, declared, declared_label, declared_local}
+use Rattle.plc_scope.specs.Scope.{declared_parameter, may_name_local, has_local, local_number, most_locals, local_limit}
+use Rattle.plc_scope.specs.Scope.{with_local, as_protecting, as_without_pointer}
 use Rattle.plc_scope.specs.Limits.{within_limit}
 use Rattle.plc_scope.specs.Primitives.{with_number, pointer_value, data_value, value_into, pointer_atom, atom_into}
 use Rattle.plc_scope.specs.Primitives.{set_means, refresh_from, refresh_name_means, refresh_means, ghost_value_means}
 use Rattle.plc_scope.specs.Primitives.{ghost_set_means, pointer_equality, pointer_test, test_of, test_means, relation}
-use Rattle.plc_scope.specs.Primitives.{pointer_or_null, condition_means, some_primitive, primitive_means, initial_means}
-use Rattle.plc_scope.specs.Primitives.{argument_means, call_means}
+use Rattle.plc_scope.specs.Primitives.{pointer_or_null, condition_means, primitive_means, initial_means, argument_means}
+use Rattle.plc_scope.specs.Primitives.{call_means}
 
 -- both are answered, and their answers stand in a relation; or neither is
 abbrev pub Alike : {A B : Type 0} → (A → B → Type 0) → Result A ParseFault → Result B ParseFault → Type 0
@@ -157,48 +158,48 @@ module _ (s : Scope) where
 
   -- ---- uses
 
-  pub protecting_same : (n : Placed Text) → Same (protecting_at s n) (protecting_at s (unplaced n))
-  unfolding protecting_at
+  pub protecting_same : (n : Placed Text) → Same (role_as as_protecting s n) (role_as as_protecting s (unplaced n))
+  unfolding role_as
   protecting_same n = needed_same _ n.at 0 (role_of s n.value)
 
-  pub without_pointer_same : (n : Placed Text) → Same (without_pointer_at s n) (without_pointer_at s (unplaced n))
-  unfolding without_pointer_at
+  pub without_pointer_same : (n : Placed Text) → Same (role_as as_without_pointer s n) (role_as as_without_pointer s (unplaced n))
+  unfolding role_as
   without_pointer_same n = needed_same _ n.at 0 (role_of s n.value)
 
-  pointer_same : (n : Placed Text) → Same (pointer_at s n) (pointer_at s (unplaced n))
-  unfolding pointer_at
+  pointer_same : (n : Placed Text) → Same (role_as as_pointer s n) (role_as as_pointer s (unplaced n))
+  unfolding role_as
   pointer_same n = needed_same _ n.at 0 (role_of s n.value)
 
-  pointer_local_same : (n : Placed Text) → Same (pointer_local_at s n) (pointer_local_at s (unplaced n))
-  unfolding pointer_local_at
+  pointer_local_same : (n : Placed Text) → Same (role_as as_pointer_local s n) (role_as as_pointer_local s (unplaced n))
+  unfolding role_as
   pointer_local_same n = needed_same _ n.at 0 (role_of s n.value)
 
-  data_same : (n : Placed Text) → Same (data_at s n) (data_at s (unplaced n))
-  unfolding data_at
+  data_same : (n : Placed Text) → Same (role_as as_data s n) (role_as as_data s (unplaced n))
+  unfolding role_as
   data_same n = needed_same _ n.at 0 (role_of s n.value)
 
-  pointer_field_same : (n : Placed Text) → Same (pointer_field_at s n) (pointer_field_at s (unplaced n))
-  unfolding pointer_field_at
+  pointer_field_same : (n : Placed Text) → Same (role_as as_pointer_field s n) (role_as as_pointer_field s (unplaced n))
+  unfolding role_as
   pointer_field_same n = needed_same _ n.at 0 (role_of s n.value)
 
-  data_field_same : (n : Placed Text) → Same (data_field_at s n) (data_field_at s (unplaced n))
-  unfolding data_field_at
+  data_field_same : (n : Placed Text) → Same (role_as as_data_field s n) (role_as as_data_field s (unplaced n))
+  unfolding role_as
   data_field_same n = needed_same _ n.at 0 (role_of s n.value)
 
-  function_same : (n : Placed Text) → Same (function_at s n) (function_at s (unplaced n))
-  unfolding function_at
+  function_same : (n : Placed Text) → Same (role_as as_function s n) (role_as as_function s (unplaced n))
+  unfolding role_as
   function_same n = needed_same _ n.at 0 (role_of s n.value)
 
-  auxiliary_same : (n : Placed Text) → Same (auxiliary_at s n) (auxiliary_at s (unplaced n))
-  unfolding auxiliary_at
+  auxiliary_same : (n : Placed Text) → Same (role_as as_auxiliary s n) (role_as as_auxiliary s (unplaced n))
+  unfolding role_as
   auxiliary_same n = needed_same _ n.at 0 (role_of s n.value)
 
-  value_same : (g : ℕ) (n : Placed Text) → Same (value_at s g n) (value_at s g (unplaced n))
-  unfolding value_at
+  value_same : (g : ℕ) (n : Placed Text) → Same (role_as (as_value_of g) s n) (role_as (as_value_of g) s (unplaced n))
+  unfolding role_as
   value_same g n = needed_same _ n.at 0 (role_of s n.value)
 
-  thread_same : (n : Placed Text) → Same (thread_at s n) (thread_at s (unplaced n))
-  unfolding thread_at
+  thread_same : (n : Placed Text) → Same (role_as as_thread s n) (role_as as_thread s (unplaced n))
+  unfolding role_as
   thread_same n = needed_same _ n.at 0 (role_of s n.value)
 
   role_same : (n : Placed Text) → Same (role_at s n) (role_at s (unplaced n))

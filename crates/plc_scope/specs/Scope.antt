@@ -68,16 +68,8 @@ has_local locals number = list_any (λ (l : Local). l.name == number) locals
 
 -- a local may have the name of another operation's local, and of nothing else
 abbrev pub may_name_local : Option Binding → Bool → Bool
-may_name_local (Some LocalOnly) false = true
-may_name_local (Some LocalOnly) true = false
-may_name_local (Some Taken) b = false
-may_name_local (Some (Shared k)) b = false
-may_name_local (Some (PointerField f)) b = false
-may_name_local (Some (DataField f)) b = false
-may_name_local (Some (Function f p)) b = false
-may_name_local (Some (Auxiliary g t)) b = false
-may_name_local (Some (Value g v)) b = false
-may_name_local None b = false
+may_name_local (Some LocalOnly) is_local = not is_local
+may_name_local _ is_local = false
 
 -- the number of a local's name, and the names with it
 abbrev pub local_number : Option ℕ → Scope → Placed Text → Result (ℕ × Scope) ParseFault
@@ -96,9 +88,7 @@ with_label s number = record s { labels = s.labels ++ number ∷ [] }
 
 -- a label, which is new as any name of the file; it has the number of the labels before
 abbrev pub declared_label : Scope → Placed Text → Result Scope ParseFault
-declared_label s n = do
-  t ← declared s n Taken
-  Ok (with_label t (length s.names.names))
+declared_label s n = declared s n Taken >>= λ t. Ok (with_label t (length s.names.names))
 
 -- after an operation
 abbrev pub without_locals : Scope → Scope
@@ -258,46 +248,6 @@ as_value_of h _ = None
 abbrev pub as_thread : Role → Option ℕ
 as_thread r = None
 
--- the pointer variable that a name is
-unfoldable pub pointer_at : Scope → Placed Text → Result Var ParseFault
-pointer_at s n = needed as_pointer n.at (role_of s n.value)
-
--- the function, and whether it takes a pointer
-unfoldable pub function_at : Scope → Placed Text → Result (FuncId × Bool) ParseFault
-function_at s n = needed as_function n.at (role_of s n.value)
-
--- the auxiliary field, and whether it holds a thread
-unfoldable pub auxiliary_at : Scope → Placed Text → Result (ℕ × Bool) ParseFault
-auxiliary_at s n = needed as_auxiliary n.at (role_of s n.value)
-
--- the data local
-unfoldable pub data_at : Scope → Placed Text → Result ℕ ParseFault
-data_at s n = needed as_data n.at (role_of s n.value)
-
--- the function of a hazard pointer
-unfoldable pub protecting_at : Scope → Placed Text → Result FuncId ParseFault
-protecting_at s n = needed as_protecting n.at (role_of s n.value)
-
--- the pointer field
-unfoldable pub pointer_field_at : Scope → Placed Text → Result FieldId ParseFault
-pointer_field_at s n = needed as_pointer_field n.at (role_of s n.value)
-
--- a function of an epoch
-unfoldable pub without_pointer_at : Scope → Placed Text → Result FuncId ParseFault
-without_pointer_at s n = needed as_without_pointer n.at (role_of s n.value)
-
--- the data field
-unfoldable pub data_field_at : Scope → Placed Text → Result FieldId ParseFault
-data_field_at s n = needed as_data_field n.at (role_of s n.value)
-
--- the pointer local
-unfoldable pub pointer_local_at : Scope → Placed Text → Result ℕ ParseFault
-pointer_local_at s n = needed as_pointer_local n.at (role_of s n.value)
-
--- the value of an auxiliary field
-unfoldable pub value_at : Scope → ℕ → Placed Text → Result ℕ ParseFault
-value_at s h n = needed (as_value_of h) n.at (role_of s n.value)
-
--- a name can't stand where a thread is wanted, but it has to be declared
-unfoldable pub thread_at : Scope → Placed Text → Result ℕ ParseFault
-thread_at s n = needed as_thread n.at (role_of s n.value)
+-- what a name has to be in the present operation, told at the name
+unfoldable pub role_as : {A : Type 0} → (Role → Option A) → Scope → Placed Text → Result A ParseFault
+role_as wanted s n = needed wanted n.at (role_of s n.value)

@@ -3,10 +3,10 @@
 ghost use Rattle.std.specs.Prelude.{◌≡◌, ◌<◌, ◌≤◌, length};
 ghost use Rattle.plc_syntax.specs.Views.{name_tree};
 ghost use Rattle.plc_scope.specs.Answers.{Gives};
-ghost use Rattle.plc_scope.specs.Scope.{most_locals, local_named, found_at, found, role_of, role_at};
-ghost use Rattle.plc_scope.specs.Scope.{binding_role, local_role, pointer_at, data_at, pointer_field_at, data_field_at};
-ghost use Rattle.plc_scope.specs.Scope.{pointer_local_at, function_at, protecting_at, without_pointer_at};
-ghost use Rattle.plc_scope.specs.Scope.{auxiliary_at, value_at, thread_at};
+ghost use Rattle.plc_scope.specs.Scope.{most_locals, local_named, found_at, found, role_of, role_at, binding_role};
+ghost use Rattle.plc_scope.specs.Scope.{local_role, role_as, as_pointer, as_data, as_pointer_field, as_data_field};
+ghost use Rattle.plc_scope.specs.Scope.{as_pointer_local, as_function, as_protecting, as_without_pointer, as_auxiliary};
+ghost use Rattle.plc_scope.specs.Scope.{as_value_of, as_thread};
 
 use crate::binding::{Binding, Found, Role};
 use crate::fault::{Meaning, ParseFault};
@@ -119,105 +119,105 @@ impl Scope {
     }
 
     /// The pointer variable that a name is; `Undeclared`, or `WrongSort` for another thing.
-    #[tactic(auto, unfolding(crate::specs::Scope::pointer_at))]
+    #[tactic(auto, unfolding(crate::specs::Scope::role_as))]
     pub fn pointer_at(&self, name: Name) -> Meaning<Var>
         requires { length self.now.locals ≤ most_locals }
-        ensures { Gives (λ variable. variable) result (pointer_at self.now (name_tree name.entry)) }
+        ensures { Gives (λ variable. variable) result (role_as as_pointer self.now (name_tree name.entry)) }
     {
         wanted! { self, name; Role::PointerVariable(variable) => variable }
     }
 
     /// The reclaimer function that a name is, and whether it takes a pointer; `Undeclared`, or
     /// `WrongSort` for another thing.
-    #[tactic(auto, unfolding(crate::specs::Scope::function_at))]
+    #[tactic(auto, unfolding(crate::specs::Scope::role_as))]
     pub fn function_at(&self, name: Name) -> Meaning<(FuncId, bool)>
         requires { length self.now.locals ≤ most_locals }
-        ensures { Gives (λ x. (x.0, x.1)) result (function_at self.now (name_tree name.entry)) }
+        ensures { Gives (λ x. (x.0, x.1)) result (role_as as_function self.now (name_tree name.entry)) }
     {
         wanted! { self, name; Role::Function(function, takes_pointer) => (function, takes_pointer) }
     }
 
     /// The auxiliary field that a name is, and whether it holds a thread; `Undeclared`, or
     /// `WrongSort` for another thing.
-    #[tactic(auto, unfolding(crate::specs::Scope::auxiliary_at))]
+    #[tactic(auto, unfolding(crate::specs::Scope::role_as))]
     pub fn auxiliary_at(&self, name: Name) -> Meaning<(u16, bool)>
         requires { length self.now.locals ≤ most_locals }
-        ensures { Gives (λ x. (x.0, x.1)) result (auxiliary_at self.now (name_tree name.entry)) }
+        ensures { Gives (λ x. (x.0, x.1)) result (role_as as_auxiliary self.now (name_tree name.entry)) }
     {
         wanted! { self, name; Role::Auxiliary(field, of_threads) => (field, of_threads) }
     }
 
     /// The data local that a name is; `Undeclared`, or `WrongSort` for another thing.
-    #[tactic(auto, unfolding(crate::specs::Scope::data_at))]
+    #[tactic(auto, unfolding(crate::specs::Scope::role_as))]
     pub fn data_at(&self, name: Name) -> Meaning<u16>
         requires { length self.now.locals ≤ most_locals }
-        ensures { Gives (λ local. local) result (data_at self.now (name_tree name.entry)) }
+        ensures { Gives (λ local. local) result (role_as as_data self.now (name_tree name.entry)) }
     {
         wanted! { self, name; Role::DataLocal(local) => local }
     }
 
     /// The function that sets a hazard pointer: it takes a pointer and isn't `retire`; `Undeclared`, or
     /// `WrongSort` for another thing.
-    #[tactic(auto, unfolding(crate::specs::Scope::protecting_at))]
+    #[tactic(auto, unfolding(crate::specs::Scope::role_as))]
     pub fn protecting_at(&self, name: Name) -> Meaning<FuncId>
         requires { length self.now.locals ≤ most_locals }
-        ensures { Gives (λ x. x) result (protecting_at self.now (name_tree name.entry)) }
+        ensures { Gives (λ x. x) result (role_as as_protecting self.now (name_tree name.entry)) }
     {
         wanted! { self, name; Role::Function(function, true) if !function.is_retire() => function }
     }
 
     /// The pointer field that a name is; `Undeclared`, or `WrongSort` for another thing.
-    #[tactic(auto, unfolding(crate::specs::Scope::pointer_field_at))]
+    #[tactic(auto, unfolding(crate::specs::Scope::role_as))]
     pub fn pointer_field_at(&self, name: Name) -> Meaning<FieldId>
         requires { length self.now.locals ≤ most_locals }
-        ensures { Gives (λ field. field) result (pointer_field_at self.now (name_tree name.entry)) }
+        ensures { Gives (λ field. field) result (role_as as_pointer_field self.now (name_tree name.entry)) }
     {
         wanted! { self, name; Role::PointerField(field) => field }
     }
 
     /// The function that takes no pointer, such as those of an epoch; `Undeclared`, or `WrongSort` for
     /// another thing.
-    #[tactic(auto, unfolding(crate::specs::Scope::without_pointer_at))]
+    #[tactic(auto, unfolding(crate::specs::Scope::role_as))]
     pub fn without_pointer_at(&self, name: Name) -> Meaning<FuncId>
         requires { length self.now.locals ≤ most_locals }
-        ensures { Gives (λ x. x) result (without_pointer_at self.now (name_tree name.entry)) }
+        ensures { Gives (λ x. x) result (role_as as_without_pointer self.now (name_tree name.entry)) }
     {
         wanted! { self, name; Role::Function(function, false) => function }
     }
 
     /// The data field that a name is; `Undeclared`, or `WrongSort` for another thing.
-    #[tactic(auto, unfolding(crate::specs::Scope::data_field_at))]
+    #[tactic(auto, unfolding(crate::specs::Scope::role_as))]
     pub fn data_field_at(&self, name: Name) -> Meaning<FieldId>
         requires { length self.now.locals ≤ most_locals }
-        ensures { Gives (λ field. field) result (data_field_at self.now (name_tree name.entry)) }
+        ensures { Gives (λ field. field) result (role_as as_data_field self.now (name_tree name.entry)) }
     {
         wanted! { self, name; Role::DataField(field) => field }
     }
 
     /// The pointer local that a name is; `Undeclared`, or `WrongSort` for another thing.
-    #[tactic(auto, unfolding(crate::specs::Scope::pointer_local_at))]
+    #[tactic(auto, unfolding(crate::specs::Scope::role_as))]
     pub fn pointer_local_at(&self, name: Name) -> Meaning<u16>
         requires { length self.now.locals ≤ most_locals }
-        ensures { Gives (λ x. x) result (pointer_local_at self.now (name_tree name.entry)) }
+        ensures { Gives (λ x. x) result (role_as as_pointer_local self.now (name_tree name.entry)) }
     {
         wanted! { self, name; Role::PointerVariable(Var::Local(local)) => local }
     }
 
     /// The value that a name is, of the auxiliary field with this number; `Undeclared`, or
     /// `WrongSort` for another thing.
-    #[tactic(auto, unfolding(crate::specs::Scope::value_at))]
+    #[tactic(auto, unfolding(crate::specs::Scope::role_as))]
     pub fn value_at(&self, field: u16, name: Name) -> Meaning<u16>
         requires { length self.now.locals ≤ most_locals }
-        ensures { Gives (λ x. x) result (value_at self.now field (name_tree name.entry)) }
+        ensures { Gives (λ x. x) result (role_as (as_value_of field) self.now (name_tree name.entry)) }
     {
         wanted! { self, name; Role::Value(of, value) if of == field => value }
     }
 
     /// Where a thread is wanted no name can stand: `Undeclared`, or else `WrongSort`.
-    #[tactic(auto, unfolding(crate::specs::Scope::thread_at))]
+    #[tactic(auto, unfolding(crate::specs::Scope::role_as))]
     pub fn thread_at(&self, name: Name) -> Meaning<u16>
         requires { length self.now.locals ≤ most_locals }
-        ensures { Gives (λ x. x) result (thread_at self.now (name_tree name.entry)) }
+        ensures { Gives (λ x. x) result (role_as as_thread self.now (name_tree name.entry)) }
     {
         // Only its fault is wanted.
         let _role = self.role(name)?;

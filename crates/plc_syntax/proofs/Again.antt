@@ -332,14 +332,14 @@ pub initial_gets : (i : trees.InitialTree) (at : ℕ) (r : Pieces)
     (λ m. forms.initial_of at (kinds_of (trees.initial_then i r))) i r
 initial_gets (trees.InitialSet (trees.SetName k v)) at r =
     then {us = symbol Semicolon ∷ r} _ (λ p. p)
-        (then {given = AreInPlace at (trees.set_then (trees.SetName k v) (symbol Semicolon ∷ r))} _
+    (then {given = AreInPlace at (trees.set_then (trees.SetName k v) (symbol Semicolon ∷ r))} _
     (λ p. p.1.1) (value_gets v (at + 1 + 1) r)
     (λ y q e s. done (ap (trees.SetName (unplaced k)) e)
     (λ p. (both trees.SetName (there k p.0.0) (s p).0, (s p).1))))
     (λ y q e s. done (ap trees.InitialSet e) (λ p. (ap trees.InitialSet (s p).0, (s p).1.1)))
 initial_gets (trees.InitialSet (trees.SetField k f a)) at r =
     then {us = symbol Semicolon ∷ r} _ (λ p. p)
-        (then {given = AreInPlace at (trees.set_then (trees.SetField k f a) (symbol Semicolon ∷ r))} _
+    (then {given = AreInPlace at (trees.set_then (trees.SetField k f a) (symbol Semicolon ∷ r))} _
     (λ p. p.1.1.1.1) (atom_gets a (at + 1 + 1 + 1 + 1) (symbol Semicolon ∷ r))
     (λ y q e s. done (ap (trees.SetField (unplaced k) (unplaced f)) e)
     (λ p. (three trees.SetField (there k p.0.0) (there f p.1.1.0.0) (s p).0, (s p).1))))

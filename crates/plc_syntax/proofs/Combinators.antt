@@ -1,8 +1,8 @@
 -- What a reader reads are the tokens of a tree in which each place is that of its token, or the beginning of a tree's
 -- up to the first token that doesn't fit; and to what it read neither what comes after that token makes a difference
 -- nor more fuel. Readers that are put together of such readers are such readers: the law of each is found by its shape.
-use Rattle.std.proofs.Common.{◌≡◌, ◌∙◌, ◌+◌, ◌<◌, ◌≤◌, ℕ, Bool, true, false, cond, Some, None, List, [], ◌∷◌}
-use Rattle.std.proofs.Common.{◌++◌, length, map, Ok, Err, refl, sym, ap, subst, inl, inr, arith, rules, lit≤}
+use Rattle.std.proofs.Common.{◌≡◌, ◌∙◌, ◌+◌, ◌<◌, ◌≤◌, ℕ, Bool, true, false, cond, Some, None, List, [], ◌∷◌, ◌++◌}
+use Rattle.std.proofs.Common.{length, map, Ok, Err, refl, sym, ap, subst, inl, inr, arith, rules, lit≤}
 use Rattle.std.proofs.lemmas.Bool.{cases_Bool}
 use Rattle.std.proofs.lemmas.List.{append_assoc, length-append}
 use Rattle.std.specs.List.{AllByRecursion}
@@ -18,9 +18,8 @@ use Rattle.plc_lex.specs.Stops.{IsKind, IsName}
 use Rattle.plc_syntax.specs.Trees.{Text, Placed, Piece, Pieces, plain, token_at, word, symbol, name, numeral}
 use Rattle.plc_syntax.specs.Trees.{from_place, placed_then, kinds_of, AreInPlace}
 use Rattle.plc_syntax.specs.Syntax.{Spelling, AreOf}
-use Rattle.plc_syntax.specs.Forms.{Read, Reader, Pass, ◌>>=◌, ◌>>◌, Next, chosen, led, at_place, placed_of}
-use Rattle.plc_syntax.specs.Forms.{word_of, symbol_of, ended_by, name_next, name_of, name_and, number_next}
-use Rattle.plc_syntax.specs.Forms.{number_of}
+use Rattle.plc_syntax.specs.Forms.{Read, Reader, Pass, ◌>>=◌, ◌>>◌, Next, chosen, led, at_place, placed_of, word_of}
+use Rattle.plc_syntax.specs.Forms.{symbol_of, ended_by, name_next, name_of, name_and, number_next, number_of}
 use Rattle.plc_syntax.proofs.Pieces.{Tokens, kinds_append, kinds_before, kinds_plain, count_before, in_place_append}
 use Rattle.plc_syntax.proofs.Pieces.{plain_in_place, from_kinds, from_length, from_in_place, from_before, rest_from}
 use Rattle.plc_syntax.proofs.Pieces.{rest_kinds, rest_before}

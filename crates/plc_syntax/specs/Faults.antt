@@ -2,9 +2,8 @@
 use Rattle.std.specs.Prelude.{◌≡◌, ℕ, List}
 use Rattle.plc_lex.specs.declared.token.TokenKind.{TokenKind}
 use Rattle.plc_syntax.specs.Nesting.{NoneTooDeep}
-use Rattle.plc_syntax.specs.Stops.{SyntaxFaultAt, NestingFaultAt}
+use Rattle.plc_syntax.specs.Stops.{SyntaxFaultAt, NestingFaultAt, OutlineFaultAt}
 use Rattle.plc_syntax.specs.Syntax.{IsFile}
-use Rattle.plc_syntax.specs.Stops.{OutlineFaultAt}
 
 -- a fault of syntax or of nesting is at one place, tokens don't have both, and with either they are no file without
 -- blocks too deep; an outline that has to stand at the front is missing at one place

@@ -1,7 +1,7 @@
 -- How deep blocks stand within one another, on tokens alone: the braces that are open before the brace of a block are
 -- those of the operation and of the blocks around it, since neither the struct nor `init`, an outline or an `atomic`
 -- block holds blocks.
-use Rattle.std.specs.Prelude.{◌≡◌, ◌≢◌, ◌+◌, ◌-◌, ◌<◌, ℕ, Bool, true, false, Some, List, take, slice_get}
+use Rattle.std.specs.Prelude.{◌≡◌, ◌≢◌, ◌-◌, ◌<◌, ℕ, Bool, true, false, Some, List, take, slice_get}
 use Rattle.std.specs.List.{count_by}
 use Rattle.plc_base.specs.Limits.{most}
 use Rattle.plc_base.specs.declared.limits.What1.TheVariants as limits
@@ -9,7 +9,6 @@ use Rattle.plc_lex.specs.declared.token.TokenKind.{TokenKind}
 use Rattle.plc_lex.specs.declared.token.TokenKind.TheVariants.{Word, Symbol}
 use Rattle.plc_lex.specs.declared.token.Keyword.TheVariants.{Atomic}
 use Rattle.plc_lex.specs.declared.token.Symbol.TheVariants.{OpenBrace, CloseBrace}
-use Rattle.plc_syntax.specs.Stops.{BeginsFile, FaultAt}
 
 -- how many blocks may stand within one another
 abbrev pub nesting_limit : ℕ

@@ -1,10 +1,9 @@
 -- Where tokens stop being a file's or an outline's, and where a block stands too deep.
-use Rattle.std.specs.Prelude.{◌≡◌, ℕ, ◌+◌, ◌<◌, ◌≤◌, List, [], ◌++◌, length, take, map}
+use Rattle.std.specs.Prelude.{◌≡◌, ℕ, ◌+◌, ◌<◌, ◌≤◌, List, [], ◌++◌, length, take}
 use Rattle.std.specs.List.{AllByRecursion}
-use Rattle.plc_lex.specs.declared.token.Token.{Token}
 use Rattle.plc_lex.specs.declared.token.TokenKind.{TokenKind}
 use Rattle.plc_lex.specs.Stops.{IsKind}
-use Rattle.plc_syntax.specs.Trees.{FileTree, OutlineTree, Pieces, plain, kinds_of, AreInPlace, file_then, outline_then}
+use Rattle.plc_syntax.specs.Trees.{OutlineTree, file_then, outline_then}
 use Rattle.plc_syntax.specs.Syntax.{Spelling, spelled, AreWhole, AreOf}
 use Rattle.plc_syntax.specs.Nesting.{TooDeepAt}
 

@@ -1,12 +1,10 @@
 -- Which tree is that of tokens: they are what it spells, and each place in it is the number of its own token. All is
 -- said of the trees of any form: `x_then tree rest` are the tokens of a tree followed by the rest. Whether there is a
 -- tree asks nothing of its places.
-use Rattle.std.specs.Prelude.{◌≡◌, ℕ, ◌+◌, ◌<◌, ◌≤◌, List, [], ◌++◌, length, take, map}
-use Rattle.std.specs.List.{AllByRecursion}
+use Rattle.std.specs.Prelude.{◌≡◌, ℕ, List, [], map}
 use Rattle.plc_lex.specs.declared.token.Token.{Token}
 use Rattle.plc_lex.specs.declared.token.TokenKind.{TokenKind}
-use Rattle.plc_lex.specs.Stops.{IsKind}
-use Rattle.plc_syntax.specs.Trees.{FileTree, OutlineTree, Pieces, plain, kinds_of, AreInPlace, file_then, outline_then}
+use Rattle.plc_syntax.specs.Trees.{FileTree, Pieces, plain, kinds_of, AreInPlace, file_then}
 
 -- tokens without their places
 abbrev pub kinds : List Token → List TokenKind

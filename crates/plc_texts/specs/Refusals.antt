@@ -5,8 +5,8 @@ use Rattle.plc_base.specs.Bounds.{limit_name}
 use Rattle.plc_lex.specs.declared.fault.LexFault.{LexFault}
 use Rattle.plc_lex.specs.declared.fault.LexFault.TheVariants.{BadByte, LongName, BadNumber, Memory as LexMemory}
 use Rattle.plc_scope.specs.declared.fault.ParseFault.{ParseFault}
-use Rattle.plc_scope.specs.declared.fault.ParseFault.TheVariants.{Syntax, Undeclared, Duplicate, WrongSort}
-use Rattle.plc_scope.specs.declared.fault.ParseFault.TheVariants.{NoSuchCall, Limit, Memory}
+use Rattle.plc_scope.specs.declared.fault.ParseFault.TheVariants.{Syntax, Undeclared, Duplicate, WrongSort, NoSuchCall}
+use Rattle.plc_scope.specs.declared.fault.ParseFault.TheVariants.{Limit, Memory}
 
 -- the texts of words of no listed form, of a read that failed, and of a file that is too long
 abbrev pub words_refused_text : List ℕ

@@ -10,9 +10,8 @@ use Rattle.std.proofs.lemmas.Option.{slice_get_within}
 use Rattle.plc_lex.specs.declared.token.Token.{Token}
 use Rattle.plc_lex.specs.declared.token.TokenKind.{TokenKind}
 use Rattle.plc_syntax.specs.Syntax.{kinds, IsFile}
-use Rattle.plc_syntax.specs.Stops.{BeginsFile, FaultAt}
+use Rattle.plc_syntax.specs.Stops.{BeginsFile, FaultAt, NoneTooDeepBefore}
 use Rattle.plc_syntax.specs.Nesting.{is_open_brace, is_close_brace, TooDeepAt, NoneTooDeep}
-use Rattle.plc_syntax.specs.Stops.{NoneTooDeepBefore}
 use Rattle.plc_tree.specs.declared.nesting.Braces.{Braces}
 use Rattle.plc_tree.specs.Braces.{HasCounted}
 

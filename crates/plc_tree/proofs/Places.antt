@@ -1,18 +1,14 @@
 -- Of the answers one holds, at one place: what begins a tree's tokens begins them from any of its prefixes on, so that
 -- two faults can't be at two places. For any reader with the law that reads every tree's tokens again.
 use Rattle.std.proofs.Common.{◌≡◌, ◌⊎◌, ◌∙◌, ◌+◌, ◌<◌, ◌≤◌, ℕ, [], ◌∷◌, ◌++◌, length, take, drop, map, Ok, Err, refl}
-use Rattle.std.proofs.Common.{sym}
-use Rattle.std.proofs.Common.{ap, subst, arith, inl, inr}
+use Rattle.std.proofs.Common.{sym, ap, subst, arith, inl, inr}
 use Rattle.std.proofs.lemmas.Bool.{cases_lt, cases_order}
 use Rattle.std.proofs.lemmas.List.{append_assoc, append-nil, take-append-drop, take-take}
 use Rattle.std.proofs.lemmas.Option.{slice_get_within}
 use Rattle.plc_lex.specs.declared.token.TokenKind.{TokenKind}
 use Rattle.plc_syntax.specs.Faults.{SyntaxFaultsAreOne}
-use Rattle.plc_syntax.specs.Stops.{SyntaxFaultAt, NestingFaultAt}
-use Rattle.plc_syntax.specs.Syntax.{Spelling, spelled, AreOf, AreOfFile, AreWhole}
-use Rattle.plc_syntax.specs.Stops.{AreOfOutline, Begin, StopAt}
-use Rattle.plc_syntax.specs.Syntax.{IsFile}
-use Rattle.plc_syntax.specs.Stops.{FaultAt}
+use Rattle.plc_syntax.specs.Stops.{SyntaxFaultAt, NestingFaultAt, AreOfOutline, Begin, StopAt, FaultAt}
+use Rattle.plc_syntax.specs.Syntax.{Spelling, spelled, AreOf, AreOfFile, AreWhole, IsFile}
 use Rattle.plc_syntax.specs.Trees.{FileTree, OutlineTree, plain, kinds_of, AreInPlace, file_then, file_tokens}
 use Rattle.plc_syntax.specs.Trees.{outline_then}
 use Rattle.plc_syntax.specs.Forms.{Read}

@@ -2,9 +2,8 @@
 use Rattle.std.proofs.Common.{◌≡◌, ℕ, List, Result, Ok, Err, refl, ap, sym, subst, arith, inl, inr}
 use Rattle.plc_lex.specs.declared.token.TokenKind.{TokenKind}
 use Rattle.plc_syntax.specs.Nesting.{NoneTooDeep}
-use Rattle.plc_syntax.specs.Stops.{SyntaxFaultAt, NestingFaultAt}
+use Rattle.plc_syntax.specs.Stops.{SyntaxFaultAt, NestingFaultAt, FaultAt}
 use Rattle.plc_syntax.specs.Syntax.{IsFile}
-use Rattle.plc_syntax.specs.Stops.{FaultAt}
 use Rattle.plc_tree.specs.declared.fault.SyntaxFault.{SyntaxFault}
 use Rattle.plc_tree.specs.declared.fault.SyntaxFault.TheVariants.{Syntax, Nesting, Memory}
 use Rattle.plc_tree.specs.Answers.{IsFirstTooDeep, FaultsUpTo}

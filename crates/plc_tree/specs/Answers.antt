@@ -2,8 +2,7 @@
 use Rattle.std.specs.Prelude.{◌≡◌, ◌<◌, ◌≤◌, ◌+◌, ℕ, List, length, take}
 use Rattle.plc_lex.specs.declared.token.TokenKind.{TokenKind}
 use Rattle.plc_syntax.specs.Nesting.{TooDeepAt}
-use Rattle.plc_syntax.specs.Stops.{NoneTooDeepBefore}
-use Rattle.plc_syntax.specs.Stops.{BeginsFile, FaultAt}
+use Rattle.plc_syntax.specs.Stops.{NoneTooDeepBefore, BeginsFile, FaultAt}
 use Rattle.plc_syntax.specs.declared.fault.Fault.{Fault}
 use Rattle.plc_syntax.specs.declared.fault.Fault.TheVariants as faults
 use Rattle.plc_tree.specs.declared.fault.SyntaxFault.{SyntaxFault}
