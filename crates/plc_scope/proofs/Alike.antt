@@ -44,7 +44,7 @@ use Rattle.plc_scope.specs.Primitives.{with_number, pointer_value, data_value, v
 use Rattle.plc_scope.specs.Primitives.{set_means, refresh_from, refresh_name_means, refresh_means, ghost_value_means}
 use Rattle.plc_scope.specs.Primitives.{ghost_set_means, pointer_equality, pointer_test, test_of, test_means, relation}
 use Rattle.plc_scope.specs.Primitives.{pointer_or_null, condition_means, primitive_means, initial_means, argument_means}
-use Rattle.plc_scope.specs.Primitives.{call_means}
+use Rattle.plc_scope.specs.Primitives.{CallMeaning, call_means}
 
 -- both are answered, and their answers stand in a relation; or neither is
 abbrev pub Alike : {A B : Type 0} → (A → B → Type 0) → Result A ParseFault → Result B ParseFault → Type 0
@@ -89,21 +89,15 @@ limit_same n what r q h = by (n == most what)
     by false = h
 
 -- neither is answered, whichever fault goes first
-pub refused_same : {A : Type 0} (a b c : Bool) (e d f : ParseFault)
+pub refused_same : (A : Type 0) (a b c : Bool) (e d f : ParseFault)
     → Same {A = A} (if a then Err e else (if c then Err f else Err e)) (if b then Err d else (if c then Err f else Err d))
-refused_same true true c e d f = tt
-refused_same true false true e d f = tt
-refused_same true false false e d f = tt
-refused_same false true true e d f = tt
-refused_same false true false e d f = tt
-refused_same false false true e d f = tt
-refused_same false false false e d f = tt
-
--- what one has, the other has
-pub answered : {A : Type 0} (r q : Result A ParseFault) (x : A) → Same r q → r ≡ Ok x → q ≡ Ok x
-answered (Ok y) (Ok z) x h e = let first : y ≡ x = cc in subst (λ w. Ok w ≡ Ok x) h (rw first refl)
-answered (Err e) q x h f = absurd cc
-answered (Ok y) (Err e) x h f = absurd h
+refused_same A true true c e d f = tt
+refused_same A true false true e d f = tt
+refused_same A true false false e d f = tt
+refused_same A false true true e d f = tt
+refused_same A false true false e d f = tt
+refused_same A false false true e d f = tt
+refused_same A false false false e d f = tt
 
 -- ---- names
 
@@ -136,7 +130,8 @@ module _ (s : Scope) where
   number_local_same None n = refl
   number_local_same (Some i) n = by (may_name_local (slice_get s.bindings i) (has_local s.locals i))
     where
-      by : (b : Bool) → Same (if b then Ok (i, s) else Err (faults.Duplicate n.at)) (if b then Ok (i, s) else Err (faults.Duplicate 0))
+      by : (b : Bool) → Same {A = ℕ × Scope} (if b then Ok (i, s) else Err (faults.Duplicate n.at))
+          (if b then Ok (i, s) else Err (faults.Duplicate 0))
       by true = refl
       by false = tt
 
@@ -317,7 +312,7 @@ module _ (s : Scope) where
   argument_same n f true NoArgument = tt
   argument_same n f true NullArgument = retired (is_retire f)
     where
-      retired : (b : Bool) → Same (if b then Err (faults.NoSuchCall n.at) else Ok (f, args.Null, false))
+      retired : (b : Bool) → Same {A = CallMeaning} (if b then Err (faults.NoSuchCall n.at) else Ok (f, args.Null, false))
           (if b then Err (faults.NoSuchCall 0) else Ok (f, args.Null, false))
       retired true = tt
       retired false = refl
