@@ -91,10 +91,8 @@ impl Scope {
         requires { length locals.now ≤ most_locals }
         ensures { result ≡ found self.now locals.now name.now }
     {
-        match self.names.find(name) {
-            Some(number) => self.found_at(locals, number),
-            None => None,
-        }
+        let number = self.names.find(name)?;
+        self.found_at(locals, number)
     }
 
     /// What a name is in the present operation, or `None` where it has no declaration in reach.
@@ -104,10 +102,9 @@ impl Scope {
         ensures { result ≡ role_of self.now name.now }
     {
         let locals = self.locals.as_slice();
-        match self.find(locals, name) {
-            Some(Found::Local(place, is_pointer)) => Some(local_role(locals, place, is_pointer)),
-            Some(Found::OfFile(binding)) => binding_role(binding),
-            None => None,
+        match self.find(locals, name)? {
+            Found::Local(place, is_pointer) => Some(local_role(locals, place, is_pointer)),
+            Found::OfFile(binding) => binding_role(binding),
         }
     }
 

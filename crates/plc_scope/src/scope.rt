@@ -8,10 +8,10 @@ ghost use Rattle.std.specs.Prelude.{◌≡◌, ◌<◌, IfOk, IfErr, OnErr, None
 ghost use Rattle.plc_base.specs.Names.{place_of};
 ghost use Rattle.plc_syntax.specs.Views.{name_tree};
 ghost use Rattle.plc_scope.specs.Answers.{Gives, HasRoom, GrowsBy, HasRoomForLocals, GrowsByLocals};
-ghost use Rattle.plc_scope.specs.Scope.{first_scope, if_new, declared, declared_label, declared_local};
 ghost use Rattle.plc_scope.specs.Reused.{reused};
-ghost use Rattle.plc_scope.specs.Scope.{declared_parameter, with_last, with_name, may_name_local};
-ghost use Rattle.plc_scope.specs.Scope.{has_local, with_local, without_locals};
+ghost use Rattle.plc_scope.specs.Scope.{first_scope, if_new, declared, declared_label, declared_local, has_local};
+ghost use Rattle.plc_scope.specs.Scope.{declared_parameter, with_last, with_name, may_name_local, with_local};
+ghost use Rattle.plc_scope.specs.Scope.{without_locals};
 ghost use Rattle.plc_scope.specs.declared.binding.Binding.TheVariants.{LocalOnly};
 
 use crate::binding::Binding;
