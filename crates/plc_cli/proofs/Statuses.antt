@@ -133,7 +133,7 @@ module _ (status : ℕ) (text : List ℕ) where
       omega (arith, unread_pair_status status text _ _ _ _ _ none)
   pair_low old new first second most Answers low (inr due) = omega (arith, low due.0 due.1 due.3)
 
-  due_low : (reclaimers : List Meanings) (request : Option Request) (old new : KnownFiles) → IsDueFor reclaimers request old new status text → status ≤ 4
+  pub due_low : (reclaimers : List Meanings) (request : Option Request) (old new : KnownFiles) → IsDueFor reclaimers request old new status text → status ≤ 4
   due_low reclaimers None old new refused = omega (arith, refused.status_is)
   due_low reclaimers (Some (Check name)) old new due = file_low _ _ _ _ check_low due
   due_low reclaimers (Some (Certify name)) old new due = file_low _ _ _ _ certify_low due

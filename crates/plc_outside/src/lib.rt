@@ -21,6 +21,7 @@ mod memory_sinks;
 mod readings;
 mod real;
 mod sinks;
+mod taken;
 mod words;
 mod writing;
 
