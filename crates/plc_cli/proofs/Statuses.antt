@@ -1,6 +1,6 @@
 -- The status that is due is never one that says how the writing went, and that of an answer never one that says how
 -- a read went.
-use Rattle.std.proofs.Common.{◌≤◌, inl, inr, ℕ, List, [], Option, Some, None, refl, sym, ap, arith, append-nil}
+use Rattle.std.proofs.Common.{◌≤◌, inl, inr, ℕ, List, [], Option, Some, None, refl, sym, arith, append-nil}
 use Rattle.plc_outside.specs.Known.{KnownFiles, KnownSink}
 use Rattle.plc_outside.specs.Outside.{Appends, AppendsPart}
 use Rattle.plc_reclaim.specs.Meanings.{Meanings}
@@ -179,6 +179,5 @@ module _ (status : ℕ) (text : List ℕ) where
     })
 
 -- a sink to which nothing was written
-pub nothing_written : (written : Option (List ℕ)) → Appends written written []
-nothing_written None = tt
-nothing_written (Some bytes) = ap Some (sym (append-nil bytes))
+pub nothing_written : (written : List ℕ) → Appends written written []
+nothing_written written = sym (append-nil written)
