@@ -13,7 +13,7 @@ use Rattle.plc_texts.specs.Refusals.{read_too_long_text}
 use Rattle.plc_cli.specs.Answer.{IsReplayOf, IsDueFor, IsWritten, Outcome}
 use Rattle.plc_cli.specs.Certificates.{IsVerificationOf}
 use Rattle.plc_cli.specs.Completeness.{files_of, AreTold, AreShort, NoneRose, IsAnswerOf, IsAnswered, IsToldTooLong}
-use Rattle.plc_cli.specs.Completeness.{HasRoom, LacksRoom, Completeness, HonestRunsAreAnswered}
+use Rattle.plc_cli.specs.Completeness.{HasRoom, FillsRoom, Completeness, HonestRunsAreAnswered, HonestRunsFillTheRoom}
 use Rattle.plc_cli.specs.Reads.{IsUnread, IsDueForFile, IsDueForPair}
 use Rattle.plc_cli.specs.Locations.{IsLocationOf}
 use Rattle.plc_cli.specs.Requests.{Request, Check, Certify, Print, Verify, Replay, Sample, Suggest, Locate}
@@ -201,9 +201,21 @@ module _ (reclaimers : List Meanings) (request : Option Request) (old new : Know
     fits room (inl long) = subst (λ (t : List ℕ). length t ≤ sink.room) (sym long.2.text_is) room.long
     fits room (inr answer) = room.due w.status w.text answer.0
 
-    lacks : result ≡ unwritten → Due → LacksRoom reclaimers request old sink
-    lacks is (inl long) = record { text = w.text; due = inr long.2.text_is; longer = (w.ends.failed is).room }
-    lacks is (inr answer) = record { text = w.text; due = inl (w.status, answer.0); longer = (w.ends.failed is).room }
+    fills : result ≡ unwritten → sink_now.room ≡ 0 → Due → FillsRoom reclaimers request old sink sink_now
+    fills is full (inl long) = record {
+      text = w.text;
+      due = inr long.2.text_is;
+      longer = (w.ends.failed is).room;
+      part = (w.ends.failed is).part;
+      full = full;
+    }
+    fills is full (inr answer) = record {
+      text = w.text;
+      due = inl (w.status, answer.0);
+      longer = (w.ends.failed is).room;
+      part = (w.ends.failed is).part;
+      full = full;
+    }
 
     whole_long : result ≡ unread → result ≡ w.status → Due → IsToldTooLong request old sink sink_now result
     whole_long is same (inl long) = record {
@@ -237,8 +249,8 @@ module _ (reclaimers : List Meanings) (request : Option Request) (old new : Know
   neither six (inr is) = omega (arith, six, is)
 
   pub completeness_of : Outcome reclaimers request old new sink sink_now result →
-      Completeness reclaimers request old new sink sink_now result
-  completeness_of (inl none) = record {
+      (result ≡ unwritten → sink_now.room ≡ 0) → Completeness reclaimers request old new sink sink_now result
+  completeness_of (inl none) full = record {
     answered = λ told kept short held. inr none.0;
     no_room = λ told kept is. absurd (neither none.0 (inr is));
     with_room = λ told kept room. record {
@@ -246,9 +258,9 @@ module _ (reclaimers : List Meanings) (request : Option Request) (old new : Know
       answered = λ not_four not_six. absurd (not_six none.0);
     };
   }
-  completeness_of (inr w) = record {
+  completeness_of (inr w) full = record {
     answered = λ told kept short held. answered w told kept short held w.ends.only;
-    no_room = λ told kept is. lacks w told kept is (due w told kept);
+    no_room = λ told kept is. fills w told kept is (full is) (due w told kept);
     with_room = λ told kept room. record {
       only_too_long = λ is. too_long w told kept room is w.ends.only;
       answered = λ not_four not_six.
@@ -261,3 +273,7 @@ module _ (reclaimers : List Meanings) (request : Option Request) (old new : Know
 pub honestly : HonestRunsAreAnswered
 honestly reclaimers request old new sink sink_now result complete room =
     complete.with_room (λ k d low. refl) (λ k d low. refl) room
+
+pub filling : HonestRunsFillTheRoom
+filling reclaimers request old new sink sink_now result complete is =
+    complete.no_room (λ k d low. refl) (λ k d low. refl) is

@@ -1,6 +1,6 @@
 -- The status that is due is never one that says how the writing went, and that of an answer never one that says how
 -- a read went.
-use Rattle.std.proofs.Common.{◌≤◌, inl, inr, ℕ, List, [], Option, Some, None, refl, sym, ap, arith, append-nil}
+use Rattle.std.proofs.Common.{◌≤◌, inl, inr, ℕ, List, [], Option, Some, None, refl, sym, arith, append-nil}
 use Rattle.plc_outside.specs.Known.{KnownFiles, KnownSink}
 use Rattle.plc_outside.specs.Outside.{Appends, AppendsPart}
 use Rattle.plc_reclaim.specs.Meanings.{Meanings}
@@ -133,7 +133,7 @@ module _ (status : ℕ) (text : List ℕ) where
       omega (arith, unread_pair_status status text _ _ _ _ _ none)
   pair_low old new first second most Answers low (inr due) = omega (arith, low due.0 due.1 due.3)
 
-  due_low : (reclaimers : List Meanings) (request : Option Request) (old new : KnownFiles) → IsDueFor reclaimers request old new status text → status ≤ 4
+  pub due_low : (reclaimers : List Meanings) (request : Option Request) (old new : KnownFiles) → IsDueFor reclaimers request old new status text → status ≤ 4
   due_low reclaimers None old new refused = omega (arith, refused.status_is)
   due_low reclaimers (Some (Check name)) old new due = file_low _ _ _ _ check_low due
   due_low reclaimers (Some (Certify name)) old new due = file_low _ _ _ _ certify_low due
@@ -179,6 +179,5 @@ module _ (status : ℕ) (text : List ℕ) where
     })
 
 -- a sink to which nothing was written
-pub nothing_written : (written : Option (List ℕ)) → Appends written written []
-nothing_written None = tt
-nothing_written (Some bytes) = ap Some (sym (append-nil bytes))
+pub nothing_written : (written : List ℕ) → Appends written written []
+nothing_written written = sym (append-nil written)

@@ -5,7 +5,7 @@ use Rattle.plc_base.specs.FileSizes.{largest_file, largest_schedule, largest_cer
 use Rattle.plc_outside.specs.FixedBytes as fixed
 use Rattle.plc_outside.specs.HonestFiles as honest
 use Rattle.plc_outside.specs.Known.{KnownFiles, KnownSink}
-use Rattle.plc_outside.specs.Outside.{Rose, Appends}
+use Rattle.plc_outside.specs.Outside.{Rose, Appends, AppendsPart}
 use Rattle.plc_reclaim.specs.Meanings.{Meanings}
 use Rattle.plc_texts.specs.Refusals.{read_too_long_text, words_refused_text}
 use Rattle.plc_cli.specs.Answer.{IsReplayOf}
@@ -91,12 +91,15 @@ pub record HasRoom (reclaimers : List Meanings) (request : Option Request) (file
   pub long : length read_too_long_text ≤ sink.room
   pub due : (status : ℕ) (text : List ℕ) → IsAnswerOf reclaimers request files status text → length text ≤ sink.room
 
--- it lacks the room for a text that is to be written: one that is due to the contents, or `read too long`
-pub record LacksRoom (reclaimers : List Meanings) (request : Option Request) (files : KnownFiles) (sink : KnownSink)
-    : Type 0 where
+-- it lacked the room for a text that is to be written, one that is due to the contents or `read too long`: it took a
+-- proper beginning of that text, and has no room left
+pub record FillsRoom (reclaimers : List Meanings) (request : Option Request) (files : KnownFiles)
+    (sink sink_now : KnownSink) : Type 0 where
   pub text : List ℕ
   pub due : ((status : ℕ) × IsAnswerOf reclaimers request files status text) ⊎ (text ≡ read_too_long_text)
   pub longer : sink.room < length text
+  pub part : AppendsPart sink.written sink_now.written text
+  pub full : sink_now.room ≡ 0
 
 -- The status with such a room: 4 and 5 come only as `read too long`, and with each status but 4 and 6 what is due to
 -- the contents is answered.
@@ -113,9 +116,9 @@ pub record Completeness (reclaimers : List Meanings) (request : Option Request) 
   pub answered : AreTold request old → NoneRose request old new → AreShort request old
       → (Rose sink.faults sink_now.faults → ⊥)
       → IsAnswered reclaimers request old sink sink_now result ⊎ (result ≡ no_memory)
-  -- 5 comes only where the sink lacks the room for what is written
+  -- 5 comes only where the sink lacks the room for what is written, and took what it had room for
   pub no_room : AreTold request old → NoneRose request old new → result ≡ unwritten
-      → LacksRoom reclaimers request old sink
+      → FillsRoom reclaimers request old sink sink_now
   -- where the sink has room, 4 and 5 come only as `read too long`
   pub with_room : AreTold request old → NoneRose request old new → HasRoom reclaimers request old sink
       → EndsWithRoom reclaimers request old sink sink_now result
@@ -130,3 +133,14 @@ HonestRunsAreAnswered =
     (fixed.known_of sink) (fixed.known_of sink_now) result
     → HasRoom reclaimers request (honest.known_of old) (fixed.known_of sink)
     → EndsWithRoom reclaimers request (honest.known_of old) (fixed.known_of sink) (fixed.known_of sink_now) result
+
+-- Over `HonestFiles` and a `FixedSink`, whatever its room, 5 comes only where what was written fills it, as a proper
+-- beginning of what is due to the contents, or of `read too long`.
+abbrev pub HonestRunsFillTheRoom : Type 0
+HonestRunsFillTheRoom =
+    (reclaimers : List Meanings) (request : Option Request) (old new : honest.HonestlyStored)
+    (sink sink_now : fixed.FixedBytes) (result : ℕ)
+    → Completeness reclaimers request (honest.known_of old) (honest.known_of new)
+    (fixed.known_of sink) (fixed.known_of sink_now) result
+    → result ≡ unwritten
+    → FillsRoom reclaimers request (honest.known_of old) (fixed.known_of sink) (fixed.known_of sink_now)

@@ -66,8 +66,10 @@
 //! The clause `completeness` says when nothing but the files decides. Where their contents are told and short enough,
 //! and neither a count of theirs nor the sink's rises or stands at its last value, the status and the text are those
 //! due to the contents, or memory ran out. Where no count of the files rises, 5 comes only where a text that may be due
-//! is longer than the sink's room; so where there is room for each, the statuses 4 and 5 come only as `read too long`.
-//! So it is over `HonestFiles` and a `FixedSink` with room (`honest_runs_are_answered`).
+//! is longer than the sink's room; then the sink took a beginning of it and has no room left. So where there is room for
+//! each, the statuses 4 and 5 come only as `read too long`. So it is over `HonestFiles` and a `FixedSink` with room
+//! (`honest_runs_are_answered`), and whatever its room, 5 comes only where what was written fills it
+//! (`honest_runs_fill_the_room`): that asks for no bound on the text, and none is known of a certificate.
 #![tactic(auto)]
 
 mod answer;
@@ -90,7 +92,7 @@ mod words;
 pub use answer::{Answer, refusal, words_refusal};
 pub use certifying::certified_files_verify;
 pub use checking::{verdict_status, verdict_text};
-pub use laws::honest_runs_are_answered;
+pub use laws::{honest_runs_are_answered, honest_runs_fill_the_room};
 pub use own::run_with_own;
 pub use plc_outside::{
     FailSink, FileFault, Files, FixedSink, HonestFiles, Host, MemFiles, OutSink, RealFiles, Sink,

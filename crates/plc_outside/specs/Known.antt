@@ -10,9 +10,9 @@ pub record KnownFiles : Type 0 where
   pub taken : ℕ
   pub given : List Reading
 
--- what was written, where it is told; how many writes failed; and how many more bytes are surely taken before a write
+-- the bytes that it took, in order; how many writes failed; and how many more bytes are surely taken before a write
 -- fails, which is 0 where nothing is promised
 pub record KnownSink : Type 0 where
-  pub written : Option (List ℕ)
+  pub written : List ℕ
   pub faults : ℕ
   pub room : ℕ

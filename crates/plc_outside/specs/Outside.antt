@@ -58,12 +58,12 @@ pub record CountsFault {T : Type 0} (old new : ℕ) (result : Result T SinkFault
   pub failed : IsErrOf result sink.Failed → new ≡ one_more old
   pub other : ¬ IsErrOf result sink.Failed → new ≡ old
 
--- these bytes and no others were appended, where it is told what was written
-abbrev pub Appends : Option (List ℕ) → Option (List ℕ) → List ℕ → Type 0
-Appends old new text = IfSome old (λ written. new ≡ Some (written ++ text))
+-- these bytes and no others were appended
+abbrev pub Appends : List ℕ → List ℕ → List ℕ → Type 0
+Appends old new text = new ≡ old ++ text
 
 -- a prefix of the text was appended that is shorter than the text
-abbrev pub AppendsPart : Option (List ℕ) → Option (List ℕ) → List ℕ → Type 0
+abbrev pub AppendsPart : List ℕ → List ℕ → List ℕ → Type 0
 AppendsPart old new text = (n : ℕ) × (n < length text) × Appends old new (take n text)
 
 -- A write of a piece: its first bytes are appended, at least one where there are any, or else nothing is, with a cause.

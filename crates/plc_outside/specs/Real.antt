@@ -9,11 +9,12 @@ pub record RealReads : Type 0 where
   pub taken : ℕ
   pub given : List Reading
 
--- The bytes that the writer holds, where it tells them, and the count of faults.
+-- The bytes that the writer took from this sink, what it holds, where it tells that, and the count of faults.
 pub record RealWrites : Type 0 where
-  pub written : Option (List ℕ)
+  pub taken : List ℕ
+  pub held : Option (List ℕ)
   pub faults : ℕ
 
 -- what is known of it: any write may fail, so no byte is surely taken
 abbrev pub known_of : RealWrites → KnownSink
-known_of s = record { written = s.written; faults = s.faults; room = 0 }
+known_of s = record { written = s.taken; faults = s.faults; room = 0 }

@@ -2,9 +2,10 @@
 //! answers a caller has to reckon with and what each of them means.
 //!
 //! Each trait has ghost members for what no program can see: the content under a name, how often a
-//! read of it failed, what was written so far. Where an implementation tells them, as those in
-//! memory do, the contracts pin every answer; where it does not, as with the files of the system,
-//! they still say that each fault has a cause. So one program is proved for both, and only the
+//! read of it failed, which bytes a sink took so far. Where an implementation tells the contents, as those
+//! in memory do, the contracts pin every answer; where it does not, as with the files of the system,
+//! they still say that each fault has a cause. Which reads gave which bytes, and which bytes a sink took, is
+//! noted by each of them, also by those of the system. So one program is proved for both, and only the
 //! edge, `RealFiles` and `OutSink`, is trusted. It stands on `plc_base` for running out of memory.
 //!
 //! The layer above uses `Files::read` and `write_text`, which writes a whole text by as many calls
@@ -21,6 +22,7 @@ mod memory_sinks;
 mod readings;
 mod real;
 mod sinks;
+mod taken;
 mod words;
 mod writing;
 

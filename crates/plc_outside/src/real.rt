@@ -13,6 +13,7 @@ use crate::failures::FailedReads;
 use crate::files::{FileFault, Files};
 use crate::readings::Readings;
 use crate::sinks::{Sink, SinkFault};
+use crate::taken::Taken;
 use std::alloc::Global;
 use std::io::{Read, Write};
 use std::marker::Model;
@@ -185,6 +186,8 @@ impl<R: rt::Files + Drop> Files for RealFiles<R> {
 pub struct OutSink<W: Write + Drop> {
     out: W,
     faults: u64,
+    // for proofs alone
+    taken: Taken,
 }
 
 impl<W: Write + Drop> Model for OutSink<W> {
@@ -192,16 +195,19 @@ impl<W: Write + Drop> Model for OutSink<W> {
 
     ghost Value = { RealWrites };
 
-    ghost view = { λ s. record { written = W.contents s.out; faults = s.faults } };
+    ghost view = { λ s. record { taken = s.taken.bytes; held = W.contents s.out; faults = s.faults } };
 }
 
 impl<W: Write + Drop> OutSink<W> {
-    /// A sink that writes to this writer. What the writer holds already counts as written; the standard
-    /// output does not tell what that is.
+    /// A sink that writes to this writer, which took nothing from it yet.
     pub fn new(out: W) -> OutSink<W>
-        ensures { result ≡ record { written = W.contents out; faults = 0 } }
+        ensures { result ≡ record { taken = []; held = W.contents out; faults = 0 } }
     {
-        OutSink { out, faults: 0 }
+        OutSink {
+            out,
+            faults: 0,
+            taken: Taken::none(),
+        }
     }
 }
 
@@ -211,12 +217,19 @@ impl<W: Write + Drop> Sink for OutSink<W> {
     fn put(&mut self, piece: &[u8]) -> Result<usize, SinkFault>
         ensures puts { Puts (known_of self.old) (known_of self.new) piece.now result }
 
+        // Where the writer tells what it holds, that is after it.
+        ensures held { IfOk result (λ n. IfSome self.old.held (λ bytes.
+            self.new.held ≡ Some (bytes ++ take n piece.now))) }
+
         // Each fault is `Failed`, and counted.
         ensures fault { IfErr result (λ fault. fault ≡ SinkFault.Failed) }
         ensures counted { CountsFault self.old.faults self.new.faults result }
     {
         match self.out.write(piece) {
-            Ok(count) if count > 0 || piece.is_empty() => Ok(count),
+            Ok(count) if count > 0 || piece.is_empty() => {
+                self.taken = self.taken.and(&&piece[..count]);
+                Ok(count)
+            }
             _ => {
                 self.faults = self.faults.saturating_add(1);
                 Err(SinkFault::Failed)

@@ -1,7 +1,7 @@
 // Sinks, to which the program writes. As with a file of the system, one call takes as much of a
 // piece as it likes, but never nothing of a piece that has bytes: a caller that goes on with the
-// rest comes to an end. What was written is known to proofs where the sink tells it, and a fault
-// raises a count, so that no sink can refuse without a cause.
+// rest comes to an end. Each sink notes for proofs which bytes it took, and a fault raises a count, so that no
+// sink can refuse without a cause.
 ghost use Rattle.std.specs.Prelude.{◌≡◌};
 ghost use Rattle.plc_outside.specs.Known.{KnownSink};
 ghost use Rattle.plc_outside.specs.Outside.{Puts};
@@ -24,8 +24,8 @@ pub enum SinkFault {
 
 /// A sink takes bytes, piece by piece.
 pub trait Sink {
-    /// What is known of it: what was written, where it is told, how many writes failed, and how many more
-    /// bytes it surely takes before a write fails. No call takes written bytes back, and the count never falls.
+    /// What is known of it: the bytes that it took, how many writes failed, and how many more bytes it surely takes
+    /// before a write fails. No call takes written bytes back, and the count never falls.
     ghost known: { Self → KnownSink };
 
     /// Writes the first bytes of the piece and answers how many they are, which is at least 1 where

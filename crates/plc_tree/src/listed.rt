@@ -35,9 +35,7 @@ impl<'a> Listed<'a> for Name<'a> {
 
     ghost of = { λ m at ts. comma_name_of at ts };
 
-    fn begins(kind: &TokenKind) -> bool
-        ensures { result ≡ begins_comma_name kind.now }
-    {
+    fn begins(kind: &TokenKind) -> bool {
         matches!(kind, TokenKind::Symbol(Symbol::Comma))
     }
 
@@ -55,9 +53,7 @@ impl<'a> Listed<'a> for Placed<Primitive<'a>> {
 
     ghost of = { λ m at ts. placed_of primitive_line_of at ts };
 
-    fn begins(kind: &TokenKind) -> bool
-        ensures { result ≡ begins_primitive kind.now }
-    {
+    fn begins(kind: &TokenKind) -> bool {
         matches!(
             kind,
             TokenKind::Name(_)
@@ -81,9 +77,7 @@ impl<'a> Listed<'a> for Placed<Initial<'a>> {
 
     ghost of = { λ m at ts. placed_of initial_of at ts };
 
-    fn begins(kind: &TokenKind) -> bool
-        ensures { result ≡ begins_initial kind.now }
-    {
+    fn begins(kind: &TokenKind) -> bool {
         matches!(kind, TokenKind::Name(_) | TokenKind::Word(Keyword::Ghost))
     }
 
@@ -101,9 +95,7 @@ impl<'a> Listed<'a> for Declaration<'a> {
 
     ghost of = { λ m at ts. field_of at ts };
 
-    fn begins(kind: &TokenKind) -> bool
-        ensures { result ≡ begins_field kind.now }
-    {
+    fn begins(kind: &TokenKind) -> bool {
         matches!(kind, TokenKind::Word(Keyword::Ptr | Keyword::Data))
     }
 
@@ -121,9 +113,7 @@ impl<'a> Listed<'a> for Shared<'a> {
 
     ghost of = { λ m at ts. shared_of at ts };
 
-    fn begins(kind: &TokenKind) -> bool
-        ensures { result ≡ begins_shared kind.now }
-    {
+    fn begins(kind: &TokenKind) -> bool {
         matches!(kind, TokenKind::Word(Keyword::Shared))
     }
 
@@ -141,9 +131,7 @@ impl<'a> Listed<'a> for Function<'a> {
 
     ghost of = { λ m at ts. function_of at ts };
 
-    fn begins(kind: &TokenKind) -> bool
-        ensures { result ≡ begins_function kind.now }
-    {
+    fn begins(kind: &TokenKind) -> bool {
         matches!(kind, TokenKind::Word(Keyword::Call))
     }
 
@@ -161,9 +149,7 @@ impl<'a> Listed<'a> for Placed<Literal<'a>> {
 
     ghost of = { λ m at ts. or_literal_of at ts };
 
-    fn begins(kind: &TokenKind) -> bool
-        ensures { result ≡ begins_or kind.now }
-    {
+    fn begins(kind: &TokenKind) -> bool {
         matches!(kind, TokenKind::Word(Keyword::Or))
     }
 
@@ -181,9 +167,7 @@ impl<'a> Listed<'a> for Auxiliary<'a> {
 
     ghost of = { λ m at ts. ghost_of m at ts };
 
-    fn begins(kind: &TokenKind) -> bool
-        ensures { result ≡ begins_ghost kind.now }
-    {
+    fn begins(kind: &TokenKind) -> bool {
         matches!(kind, TokenKind::Word(Keyword::Ghost))
     }
 
@@ -201,9 +185,7 @@ impl<'a> Listed<'a> for Item<'a> {
 
     ghost of = { λ m at ts. item_of m at ts };
 
-    fn begins(kind: &TokenKind) -> bool
-        ensures { result ≡ begins_item kind.now }
-    {
+    fn begins(kind: &TokenKind) -> bool {
         matches!(
             kind,
             TokenKind::Word(Keyword::Inv | Keyword::Over | Keyword::At)
@@ -224,9 +206,7 @@ impl<'a> Listed<'a> for Placed<Operation<'a>> {
 
     ghost of = { λ m at ts. placed_of (op_of m) at ts };
 
-    fn begins(kind: &TokenKind) -> bool
-        ensures { result ≡ begins_op kind.now }
-    {
+    fn begins(kind: &TokenKind) -> bool {
         matches!(kind, TokenKind::Word(Keyword::Op))
     }
 

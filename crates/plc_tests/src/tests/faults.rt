@@ -134,6 +134,12 @@ fn a_fixed_room_takes_all_or_a_part(rt: HostRuntime) {
     }
     text_is(
         &rt,
+        answered_honestly(rt.alloc(), "certify hazards", 10),
+        "5\n{\"env\":[[[",
+        "certify hazards",
+    );
+    text_is(
+        &rt,
         answered_honestly(rt.alloc(), "check absent", 100),
         "2\nrefused syntax token 0 line 1\n",
         "check absent",
