@@ -1,19 +1,11 @@
 -- Which file bytes spell.
 use Rattle.std.specs.Prelude.{ℕ, ◌≤◌, List}
-use Rattle.plc_base.specs.declared.limits.What1.{What1}
-use Rattle.plc_base.specs.declared.limits.What1.TheVariants as limits
 use Rattle.plc_lex.specs.declared.token.Token.{Token}
-use Rattle.plc_lex.specs.declared.fault.LexFault.{LexFault}
-use Rattle.plc_lex.specs.declared.fault.LexFault.TheVariants as lex
 use Rattle.plc_lex.specs.Spelling.{AreTokensOf}
-use Rattle.plc_scope.specs.declared.fault.ParseFault.{ParseFault}
-use Rattle.plc_scope.specs.declared.fault.ParseFault.TheVariants as parse
 use Rattle.plc_parse.specs.declared.unit.Unit.{Unit as FileUnit}
 use Rattle.plc_parse.specs.Units.{IsUnitOf}
 use Rattle.plc_flow.specs.Lowering.{made_of, flow_of, most_points}
 use Rattle.plc_oblig.specs.Outlines.{HasFewObligations, HasSmallSets}
-use Rattle.plc_check.specs.declared.judged.LoadFault.{LoadFault}
-use Rattle.plc_check.specs.declared.judged.LoadFault.TheVariants as faults
 
 -- the bytes spell these tokens, which spell the unit, whose flow has no more points than it may
 pub record SpellsUnit (bytes : List ℕ) (tokens : List Token) (u : FileUnit) : Type 0 where

@@ -1,16 +1,12 @@
 // Where a file is refused.
-use plc_check::LoadFault;
+use plc_base::LARGEST_FILE;
+use plc_check::{LoadFault, end_line};
 use plc_lex::LexFault;
 
 /// The line of a byte.
 fn line_of_byte(bytes: &[u8], at: u32) -> u32 {
-    let mut line = 1_u32;
-    for byte in bytes.iter().take(at as usize) {
-        if *byte == b'\n' {
-            line = line.saturating_add(1);
-        }
-    }
-    line
+    let before = (at as usize).min(bytes.len()).min(LARGEST_FILE);
+    end_line(&bytes[..before])
 }
 
 /// The line at which a refusal points; 0 where it names none.
