@@ -90,7 +90,8 @@ limit_same n what r q h = by (n == most what)
 
 -- neither is answered, whichever fault goes first
 pub refused_same : (A : Type 0) (a b c : Bool) (e d f : ParseFault)
-    → Same {A = A} (if a then Err e else (if c then Err f else Err e)) (if b then Err d else (if c then Err f else Err d))
+    → Same {A = A} (if a then Err e else (if c then Err f else Err e))
+    (if b then Err d else (if c then Err f else Err d))
 refused_same A true true c e d f = tt
 refused_same A true false true e d f = tt
 refused_same A true false false e d f = tt
@@ -109,7 +110,8 @@ pub known_same : {K : Type 0} (a b : ℕ) (o : Option K) → Same (known a o) (k
 known_same a b (Some k) = refl
 known_same a b None = tt
 
-pub needed_same : {K A : Type 0} (wanted : K → Option A) (a b : ℕ) (o : Option K) → Same (needed wanted a o) (needed wanted b o)
+pub needed_same : {K A : Type 0} (wanted : K → Option A) (a b : ℕ) (o : Option K)
+    → Same (needed wanted a o) (needed wanted b o)
 needed_same wanted a b (Some k) = fits_same a b (wanted k)
 needed_same wanted a b None = tt
 
@@ -120,7 +122,8 @@ new_same (Some i) a b x = tt
 module _ (s : Scope) where
   -- ---- declarations
 
-  pub declared_same : (n : Placed Text) (binding : Binding) → Same (declared s n binding) (declared s (unplaced n) binding)
+  pub declared_same : (n : Placed Text) (binding : Binding)
+      → Same (declared s n binding) (declared s (unplaced n) binding)
   declared_same n binding = new_same (place_of n.value s.names.names) n.at 0 (with_name s n.value binding)
 
   pub declared_label_same : (n : Placed Text) → Same (declared_label s n) (declared_label s (unplaced n))
@@ -145,11 +148,13 @@ module _ (s : Scope) where
 
   pub declared_local_same : (n : Placed Text) (p : Bool) → Same (declared_local s n p) (declared_local s (unplaced n) p)
   unfolding declared_local
-  declared_local_same n p = local_limit_same _ _ (then_same _ _ _ _ (number_local_same (place_of n.value s.names.names) n) (λ x. refl))
+  declared_local_same n p =
+      local_limit_same _ _ (then_same _ _ _ _ (number_local_same (place_of n.value s.names.names) n) (λ x. refl))
 
   pub declared_parameter_same : (n : Placed Text) → Same (declared_parameter s n) (declared_parameter s (unplaced n))
   unfolding declared_parameter
-  declared_parameter_same n = then_same _ _ _ _ (number_local_same (place_of n.value s.names.names) n) (λ x. same (local_limit s (Ok (with_local x.1 x.0 false true))))
+  declared_parameter_same n = then_same _ _ _ _ (number_local_same (place_of n.value s.names.names) n) (λ x.
+      same (local_limit s (Ok (with_local x.1 x.0 false true))))
 
   -- ---- uses
 
@@ -215,7 +220,8 @@ module _ (s : Scope) where
 
   -- ---- refreshes
 
-  refresh_from_same : (p : ℕ) (place : PlaceTree) → Same (refresh_from s p place) (refresh_from s p (unplaced_place place))
+  refresh_from_same : (p : ℕ) (place : PlaceTree)
+      → Same (refresh_from s p place) (refresh_from s p (unplaced_place place))
   refresh_from_same p (PlaceOf n None) = then_same _ _ _ _ (name_same as_pointer n) (λ q. refl)
   refresh_from_same p (PlaceOf n (Some f)) =
       then_same _ _ _ _ (name_same as_pointer n) (λ q. then_same _ _ _ _ (name_same as_pointer_field f) (λ g. refl))
@@ -313,13 +319,15 @@ module _ (s : Scope) where
   argument_same n f true NoArgument = tt
   argument_same n f true NullArgument = retired (is_retire f)
     where
-      retired : (b : Bool) → Same {A = CallMeaning} (if b then Err (faults.NoSuchCall n.at) else Ok (f, args.Null, false))
+      retired : (b : Bool)
+          → Same {A = CallMeaning} (if b then Err (faults.NoSuchCall n.at) else Ok (f, args.Null, false))
           (if b then Err (faults.NoSuchCall 0) else Ok (f, args.Null, false))
       retired true = tt
       retired false = refl
   argument_same n f true (NameArgument m) = then_same _ _ _ _ (name_same as_pointer m) (λ p. refl)
   argument_same n f true (ActiveArgument m) = then_same _ _ _ _ (name_same as_pointer m) (λ p. refl)
 
-  pub call_same : (n : Placed Text) (a : ArgumentTree) → Same (call_means s n a) (call_means s (unplaced n) (unplaced_argument a))
+  pub call_same : (n : Placed Text) (a : ArgumentTree)
+      → Same (call_means s n a) (call_means s (unplaced n) (unplaced_argument a))
   unfolding call_means
   call_same n a = then_same _ _ _ _ (name_same as_function n) (λ f. argument_same n f.0 f.1 a)
