@@ -27,7 +27,7 @@ use Rattle.plc_logic.specs.Sorts.{same_sort}
 use Rattle.plc_outparse.specs.declared.kind.Kind.{Kind}
 use Rattle.plc_outparse.specs.Reach.{Reach, declared_kind, kind_of, kind_at, base_at, as_term, as_field, as_pointer}
 use Rattle.plc_outparse.specs.Reach.{as_pointer_field}
-use Rattle.plc_outparse.specs.Meaning.{in_turn, wanted_of, place_means, me_means, term_means, sort_place, if_same_sort}
+use Rattle.plc_outparse.specs.Meaning.{in_turn, wanted_of, me_means, term_means, sort_place, if_same_sort}
 use Rattle.plc_outparse.specs.Meaning.{second_means, pointer_means, flag_means, literal_means, counted, literal_step}
 use Rattle.plc_outparse.specs.Meaning.{none_bound, if_free, bound_with, second_bound, bound_means, reach, clause_means}
 use Rattle.plc_outparse.specs.Meaning.{op_named, op_at, label_named, with_op, label_at, if_same_op, label_step}

@@ -24,7 +24,6 @@ use Rattle.plc_logic.specs.declared.clause.Term.TheVariants as terms
 use Rattle.plc_logic.specs.declared.clause.Literal.{Literal}
 use Rattle.plc_logic.specs.declared.clause.Literal.TheVariants.{Same, Retired, Marked}
 use Rattle.plc_logic.specs.declared.clause.Clause.{Clause}
-use Rattle.plc_logic.specs.declared.clause.Site.{Site}
 use Rattle.plc_logic.specs.declared.clause.Site.TheVariants.{Over, At}
 use Rattle.plc_logic.specs.declared.clause.Item.{Item}
 use Rattle.plc_logic.specs.declared.clause.Outline.{Outline}
@@ -54,18 +53,14 @@ wanted_of r alone after (PlaceOf n (Some f)) = do
   k ← kind_at r f
   if_fits f.at (after b k)
 
--- a name alone, or a field of a base, with its sort
-abbrev pub place_means : Reach → PlaceTree → Result (Term × Sort) ParseFault
-place_means r p = wanted_of r as_term as_field p
-
 -- the thread that is in the operation, which an invariant lacks
 abbrev pub me_means : Bool → ℕ → Result (Term × Sort) ParseFault
 me_means true at = Ok (terms.Me, sorts.Thread)
 me_means false at = Err (faults.WrongSort at)
 
--- any term that has a sort
+-- a term with its sort
 unfoldable pub term_means : Reach → TermTree → Result (Term × Sort) ParseFault
-term_means r (PlaceTerm p) = place_means r p
+term_means r (PlaceTerm p) = wanted_of r as_term as_field p
 term_means r (NullTerm at) = Ok (terms.Null, sorts.Node)
 term_means r (NumberTerm n) = Ok (terms.Number n.value, sorts.Number)
 term_means r (MeTerm at) = me_means r.in_operation at
@@ -207,10 +202,6 @@ labels_mean s by_op n names = do
 abbrev pub Parts : Type 0
 Parts = List Clause × List Item
 
--- one more item
-abbrev pub with_item : Parts → Site → Clause → Parts
-with_item st site c = (st.0, st.1 ++ record { site = site; clause = c } ∷ [])
-
 -- an item with those before it; an invariant names no local and no thread
 unfoldable pub item_step : Scope → List Op → List (List ℕ) → Parts → ItemTree → Result Parts ParseFault
 item_step s ops by_op st (InvariantItem c) = within_limit (length st.0) limits.Invariants (do
@@ -219,11 +210,11 @@ item_step s ops by_op st (InvariantItem c) = within_limit (length st.0) limits.I
 item_step s ops by_op st (OverItem name c) = within_limit (length st.1) limits.Items (do
   o ← op_at s ops name
   k ← clause_means s (locals_of ops o) true c
-  Ok (with_item st (Over (record { 0 = o })) k))
+  Ok (st.0, st.1 ++ record { site = Over (record { 0 = o }); clause = k } ∷ []))
 item_step s ops by_op st (AtItem name names c) = within_limit (length st.1) limits.Items (do
   ls ← labels_mean s by_op name names
   k ← clause_means s (locals_of ops ls.1) true c
-  Ok (with_item st (At ls.0) k))
+  Ok (st.0, st.1 ++ record { site = At ls.0; clause = k } ∷ []))
 
 -- ---- the outline
 
