@@ -35,7 +35,6 @@ use Rattle.plc_logic.specs.declared.clause.Clause.{Clause}
 use Rattle.plc_logic.specs.declared.clause.Site.{Site}
 use Rattle.plc_logic.specs.declared.clause.Site.TheVariants.{Over, At}
 use Rattle.plc_logic.specs.declared.clause.Item.{Item}
-use Rattle.plc_logic.specs.declared.clause.Outline.{Outline}
 use Rattle.plc_logic.specs.Fit.{InReach, IsNode, HasSort, HoldsPointer, pointer_sort, ghost_sort, LiteralFits, ClauseFits, InvariantFits, LabelsFit, SiteFits, ItemFits, OutlineFits}
 use Rattle.plc_lang.specs.Labels.{block_labels, labels_by_op, has_label, op_of_label}
 use Rattle.plc_outparse.specs.declared.kind.Kind.{Kind}

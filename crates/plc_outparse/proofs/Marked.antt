@@ -27,8 +27,7 @@ use Rattle.plc_logic.specs.Marks.{literal_uses_marks, clause_uses_marks, item_us
 use Rattle.plc_outparse.specs.Reach.{Reach, base_at}
 use Rattle.plc_outparse.specs.Meaning.{in_turn, term_means, second_means, pointer_means, flag_means, literal_means}
 use Rattle.plc_outparse.specs.Meaning.{counted, literal_step, bound_means, reach, clause_means}
-use Rattle.plc_outparse.specs.Meaning.{op_at, labels_mean, Parts}
-use Rattle.plc_outparse.specs.Meaning.{item_step, depth_means, outline_means}
+use Rattle.plc_outparse.specs.Meaning.{op_at, labels_mean, Parts, item_step, depth_means, outline_means}
 
 -- ---- one more
 

@@ -35,8 +35,6 @@ use Rattle.plc_outparse.specs.Reach.{Reach, declared_kind, kind_at, base_at, as_
 use Rattle.plc_outparse.specs.Reach.{as_pointer_field}
 use Rattle.plc_lang.specs.Labels.{labels_by_op, op_of_label}
 
--- ---- parts
-
 -- parts in order, each added to what was made of those before
 abbrev pub in_turn : {S X : Type 0} → (S → X → Result S ParseFault) → S → List X → Result S ParseFault
 in_turn step s [] = Ok s
@@ -196,7 +194,7 @@ labels_mean s by_op n names = do
   ls ← in_turn (label_step s by_op l.1) (l.0 ∷ []) names
   Ok (ls, l.1)
 
--- ---- items
+-- ---- items and the outline
 
 -- the invariants and the other items so far
 abbrev pub Parts : Type 0
@@ -215,8 +213,6 @@ item_step s ops by_op st (AtItem name names c) = within_limit (length st.1) limi
   ls ← labels_mean s by_op name names
   k ← clause_means s (locals_of ops ls.1) true c
   Ok (st.0, st.1 ++ record { site = At ls.0; clause = k } ∷ []))
-
--- ---- the outline
 
 -- 0 where it is left out
 abbrev pub depth_means : Option (Placed ℕ) → Result ℕ ParseFault
