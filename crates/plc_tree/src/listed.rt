@@ -35,7 +35,9 @@ impl<'a> Listed<'a> for Name<'a> {
 
     ghost of = { λ m at ts. comma_name_of at ts };
 
-    fn begins(kind: &TokenKind) -> bool {
+    fn begins(kind: &TokenKind) -> bool
+        ensures { result ≡ begins_comma_name kind.now }
+    {
         matches!(kind, TokenKind::Symbol(Symbol::Comma))
     }
 
@@ -53,7 +55,9 @@ impl<'a> Listed<'a> for Placed<Primitive<'a>> {
 
     ghost of = { λ m at ts. placed_of primitive_line_of at ts };
 
-    fn begins(kind: &TokenKind) -> bool {
+    fn begins(kind: &TokenKind) -> bool
+        ensures { result ≡ begins_primitive kind.now }
+    {
         matches!(
             kind,
             TokenKind::Name(_)
@@ -77,7 +81,9 @@ impl<'a> Listed<'a> for Placed<Initial<'a>> {
 
     ghost of = { λ m at ts. placed_of initial_of at ts };
 
-    fn begins(kind: &TokenKind) -> bool {
+    fn begins(kind: &TokenKind) -> bool
+        ensures { result ≡ begins_initial kind.now }
+    {
         matches!(kind, TokenKind::Name(_) | TokenKind::Word(Keyword::Ghost))
     }
 
@@ -95,7 +101,9 @@ impl<'a> Listed<'a> for Declaration<'a> {
 
     ghost of = { λ m at ts. field_of at ts };
 
-    fn begins(kind: &TokenKind) -> bool {
+    fn begins(kind: &TokenKind) -> bool
+        ensures { result ≡ begins_field kind.now }
+    {
         matches!(kind, TokenKind::Word(Keyword::Ptr | Keyword::Data))
     }
 
@@ -113,7 +121,9 @@ impl<'a> Listed<'a> for Shared<'a> {
 
     ghost of = { λ m at ts. shared_of at ts };
 
-    fn begins(kind: &TokenKind) -> bool {
+    fn begins(kind: &TokenKind) -> bool
+        ensures { result ≡ begins_shared kind.now }
+    {
         matches!(kind, TokenKind::Word(Keyword::Shared))
     }
 
@@ -131,7 +141,9 @@ impl<'a> Listed<'a> for Function<'a> {
 
     ghost of = { λ m at ts. function_of at ts };
 
-    fn begins(kind: &TokenKind) -> bool {
+    fn begins(kind: &TokenKind) -> bool
+        ensures { result ≡ begins_function kind.now }
+    {
         matches!(kind, TokenKind::Word(Keyword::Call))
     }
 
@@ -149,7 +161,9 @@ impl<'a> Listed<'a> for Placed<Literal<'a>> {
 
     ghost of = { λ m at ts. or_literal_of at ts };
 
-    fn begins(kind: &TokenKind) -> bool {
+    fn begins(kind: &TokenKind) -> bool
+        ensures { result ≡ begins_or kind.now }
+    {
         matches!(kind, TokenKind::Word(Keyword::Or))
     }
 
@@ -167,7 +181,9 @@ impl<'a> Listed<'a> for Auxiliary<'a> {
 
     ghost of = { λ m at ts. ghost_of m at ts };
 
-    fn begins(kind: &TokenKind) -> bool {
+    fn begins(kind: &TokenKind) -> bool
+        ensures { result ≡ begins_ghost kind.now }
+    {
         matches!(kind, TokenKind::Word(Keyword::Ghost))
     }
 
@@ -185,7 +201,9 @@ impl<'a> Listed<'a> for Item<'a> {
 
     ghost of = { λ m at ts. item_of m at ts };
 
-    fn begins(kind: &TokenKind) -> bool {
+    fn begins(kind: &TokenKind) -> bool
+        ensures { result ≡ begins_item kind.now }
+    {
         matches!(
             kind,
             TokenKind::Word(Keyword::Inv | Keyword::Over | Keyword::At)
@@ -206,7 +224,9 @@ impl<'a> Listed<'a> for Placed<Operation<'a>> {
 
     ghost of = { λ m at ts. placed_of (op_of m) at ts };
 
-    fn begins(kind: &TokenKind) -> bool {
+    fn begins(kind: &TokenKind) -> bool
+        ensures { result ≡ begins_op kind.now }
+    {
         matches!(kind, TokenKind::Word(Keyword::Op))
     }
 
