@@ -155,25 +155,32 @@ pub value_there : (s : Scope) (g k : ℕ) (name : Placed Text) → Has (ValueThe
 value_there s g k name = next (Named s (Value g k)) (ValueThere s g k) (declared s name (Value g k)) _ (named s name (Value g k)) (λ t f.
     unless (ValueThere s g k) (k == most limits.Values) _ _ (λ few. record { keeps = f.keeps; there = λ d h there less before. f.there d (h, there, less) before }))
 
--- the values after the first k
-pub record ValuesThere (s : Scope) (g k : ℕ) (r : List ℕ × Scope) : Type 0 where
+-- so many values after the first k
+pub record ValuesThere (s : Scope) (g k count : ℕ) (r : List ℕ × Scope) : Type 0 where
+  pub count : length r.0 ≡ count
   pub keeps : KeepsLists s r.1
   pub there : (d : Lists) (h : Ghost) → GhostThere d g h → k + length r.0 ≤ length h.values → AllThere d s → AllThere d r.1
 
-pub values_there : (s : Scope) (g k : ℕ) (names : List (Placed Text)) → Has (ValuesThere s g k) (listed (value_means g) s k names)
-values_there s g k [] = record { keeps = record { locals = refl; labels = refl }; there = λ d h there le before. before }
-values_there s g k (name ∷ names) = next (ValueThere s g k) (ValuesThere s g k) (value_means g s k name) _ (value_there s g k name) (λ first f.
-    next (ValuesThere first.1 g (k + 1)) (ValuesThere s g k) (listed (value_means g) first.1 (k + 1) names) _ (values_there first.1 g (k + 1) names) (λ others m.
-    record { keeps = kept_then f.keeps m.keeps; there = λ d h there le before. m.there d h there (omega (arith, le)) (f.there d h there (omega (arith, le)) before) }))
+pub values_there : (s : Scope) (g k : ℕ) (names : List (Placed Text)) → Has (ValuesThere s g k (length names)) (listed (value_means g) s k names)
+values_there s g k [] = record { count = refl; keeps = record { locals = refl; labels = refl }; there = λ d h there le before. before }
+values_there s g k (name ∷ names) = next (ValueThere s g k) (ValuesThere s g k (length (name ∷ names))) (value_means g s k name) _ (value_there s g k name) (λ first f.
+    next (ValuesThere first.1 g (k + 1) (length names)) (ValuesThere s g k (length (name ∷ names))) (listed (value_means g) first.1 (k + 1) names) _ (values_there first.1 g (k + 1) names) (λ others m.
+    record { count = omega (arith, m.count); keeps = kept_then f.keeps m.keeps; there = λ d h there le before. m.there d h there (omega (arith, le)) (f.there d h there (omega (arith, le)) before) }))
+
+-- values that are some hold no threads
+some_values : (vs : List ℕ) (n : ℕ) → length vs ≡ n + 1 → false ≡ holds_threads vs
+some_values [] n e = absurd (omega (arith, e))
+some_values (v ∷ vs) n e = refl
 
 pub ghost_there : (s : Scope) (n : ℕ) (g : GhostTree) → Has (OneThere GhostThere s n) (ghost_means s n g)
 ghost_there s n (AuxiliaryTree name OfThreads) = one_there GhostThere n limits.Ghosts s name _ _ (λ d there. (_, there, refl))
 ghost_there s n (AuxiliaryTree name (OneOf v vs)) = unless (OneThere GhostThere s n) (n == most limits.Ghosts) _ _ (λ few.
     next (Named s (Auxiliary n false)) (OneThere GhostThere s n) (declared s name (Auxiliary n false)) _ (named s name (Auxiliary n false)) (λ t f.
-    next (ValuesThere t n 0) (OneThere GhostThere s n) (listed (value_means n) t 0 (v ∷ vs)) _ (values_there t n 0 (v ∷ vs)) (λ values m.
+    next (ValuesThere t n 0 (length (v ∷ vs))) (OneThere GhostThere s n) (listed (value_means n) t 0 (v ∷ vs)) _ (values_there t n 0 (v ∷ vs)) (λ values m.
     record {
       keeps = kept_then f.keeps m.keeps;
-      there = λ d there before. m.there d _ there (omega arith) (f.there d (_, there, refl) before);
+      there = λ d there before. m.there d _ there (omega arith)
+          (f.there d (_, there, some_values values.0 (length vs) (m.count ∙ omega arith)) before);
     })))
 
 -- `retire` is there from the start
