@@ -5,14 +5,12 @@ use Rattle.plc_syntax.specs.Views.{name_tree}
 use Rattle.plc_scope.specs.Scope.{◌>>=◌}
 use Rattle.plc_scope.proofs.Sequence.{bind_stops}
 use Rattle.plc_scope.proofs.Turns.{ahead, makes, makes_none, made}
-use Rattle.plc_parse.specs.Views.{values_with}
 use Rattle.plc_parse.proofs.Growth.{lists_then}
 use Rattle.plc_parse.specs.Meaning.{value_means}
 use Rattle.plc_parse.proofs.Loops.{one_declared, all_declared, listed_from, one_listed, listed_go, one_more, all_of}
 use Rattle.plc_parse.proofs.auxiliary.declare_values.Goals as goal
 
 pub returns-in_err-number-clause-read : goal.returns-in_err-number-clause-read
-unfolding values_with
 returns-in_err-number-clause-read c =
     let l = c.loop-name in
     let p = err_from_is_err_and c.from_residual-in_err-number.result c.from_residual-in_err-number.ensures.1 in
@@ -47,7 +45,6 @@ loop-name-preserved c =
     }
 
 pub returns-clause-read : goal.returns-clause-read
-unfolding values_with
 returns-clause-read c =
     let l = c.loop-name in
     made (listed_from (value_means c.args.owner) name_tree) (one_listed (value_means c.args.owner) name_tree) one_declared all_declared
