@@ -90,7 +90,7 @@ module _ (r : Reach) where
   counted_same : (n a b : ℕ) (m o : Result Literal ParseFault) → Same m o → Same (counted n a m) (counted n b o)
   counted_same n a b (Ok x) (Ok y) h = limit_same n limits.Literals (Ok x) (Ok y) h
   counted_same n a b (Err e) (Err f) h =
-      refused_same (stands_at a e) (stands_at b f) (n == most limits.Literals) e f (faults.Limit limits.Literals (most limits.Literals + 1))
+      refused_same _ (stands_at a e) (stands_at b f) (n == most limits.Literals) e f (faults.Limit limits.Literals (most limits.Literals + 1))
   counted_same n a b (Ok x) (Err f) h = absurd h
   counted_same n a b (Err e) (Ok y) h = absurd h
 

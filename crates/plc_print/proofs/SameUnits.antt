@@ -17,11 +17,11 @@ use Rattle.plc_scope.specs.declared.fault.ParseFault.TheVariants as faults
 use Rattle.plc_scope.specs.declared.scope.Scope.{Scope}
 use Rattle.plc_scope.specs.declared.binding.Binding.{Binding}
 use Rattle.plc_scope.specs.declared.binding.Binding.TheVariants as bindings
-use Rattle.plc_scope.specs.Scope.{◌>>=◌, first_scope, without_locals}
+use Rattle.plc_scope.specs.Scope.{◌>>=◌, first_scope, without_locals, as_protecting, as_without_pointer}
 use Rattle.plc_scope.specs.Limits.{within_limit, stands_at}
 use Rattle.plc_scope.specs.Primitives.{primitive_means, initial_means}
 use Rattle.plc_scope.proofs.Alike.{Alike, Same, same, go_on, then_alike, then_same, limit_same, refused_same, declared_same, declared_label_same, declared_local_same, declared_parameter_same}
-use Rattle.plc_scope.proofs.Alike.{protecting_same, without_pointer_same, condition_same, primitive_same, initial_same, call_same}
+use Rattle.plc_scope.proofs.Alike.{name_same, condition_same, primitive_same, initial_same, call_same}
 use Rattle.plc_outparse.proofs.Alike.{outline_same}
 use Rattle.plc_parse.specs.declared.unit.Unit.{Unit as FileUnit}
 use Rattle.plc_parse.specs.Meaning.{counted, forms_mean, atomic_means, initials_mean, count_of, allocates, label_means, during_means, statement_means, statements_mean, else_means, or_means, field_means, shared_means}
@@ -37,7 +37,7 @@ some_counted n has_new a b (Some k) = same (counted n has_new a (Ok (Some k)))
 
 counted_same : (n : ℕ) (has_new : Bool) (a b : ℕ) (r q : Result (Option Primitive) ParseFault) → Same r q → Same (counted n has_new a r) (counted n has_new b q)
 counted_same n has_new a b (Ok x) (Ok y) h = subst (λ z. Same (counted n has_new a (Ok x)) (counted n has_new b (Ok z))) h (some_counted n has_new a b x)
-counted_same n has_new a b (Err e) (Err f) h = refused_same (stands_at a e) (stands_at b f) (n == most limits.Prims) e f (faults.Limit limits.Prims (most limits.Prims + 1))
+counted_same n has_new a b (Err e) (Err f) h = refused_same _ (stands_at a e) (stands_at b f) (n == most limits.Prims) e f (faults.Limit limits.Prims (most limits.Prims + 1))
 counted_same n has_new a b (Ok x) (Err f) h = absurd h
 counted_same n has_new a b (Err e) (Ok y) h = absurd h
 
@@ -138,8 +138,8 @@ listed_same means bare one s n (x ∷ xs) = then_same _ _ _ _ (one s n x) (λ fi
 
 watch_same : (s : Scope) (w : Option WatchTree) → Same (watch_means s w) (watch_means s (unplaced_maybe unplaced_watch w))
 watch_same s None = refl
-watch_same s (Some (UseHazard f)) = then_same _ _ _ _ (protecting_same s f) (λ g. refl)
-watch_same s (Some (UseEpoch e l)) = then_same _ _ _ _ (without_pointer_same s e) (λ f. then_same _ _ _ _ (without_pointer_same s l) (λ g. refl))
+watch_same s (Some (UseHazard f)) = then_same _ _ _ _ (name_same s as_protecting f) (λ g. refl)
+watch_same s (Some (UseEpoch e l)) = then_same _ _ _ _ (name_same s as_without_pointer e) (λ f. then_same _ _ _ _ (name_same s as_without_pointer l) (λ g. refl))
 
 init_same : (s : Scope) (is : Option (List (Placed InitialTree))) → Same (init_means s is) (init_means s (unplaced_maybe unplaced_sets is))
 init_same s None = refl
