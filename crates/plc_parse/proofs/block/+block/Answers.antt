@@ -139,8 +139,8 @@ statements-returns-in_err-stmt t c =
           l.invariant.read);
     })
 
-pub choose_statement-statements-requires : goal.choose_statement-statements-requires
-choose_statement-statements-requires t c =
+pub choose_statement-statements-requires-in-loop-block : goal.choose_statement-statements-requires-in-loop-block
+choose_statement-statements-requires-in-loop-block t c =
     let l = c.loop-block in
     let left = ap (λ (bs : List BlockTree). ors_size (ors_tree bs)) (left_at c.args.others.now l.block-index
     c.block-item.result _ c.block-item.is c.loop-block-test.true) in

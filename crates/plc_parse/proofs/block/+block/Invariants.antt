@@ -37,5 +37,5 @@ invariant-choose_statement-loop-block l = record {
   grows : GrowsByLabels l.fn.scope l.scope;
   left : ors_size (ors_tree (drop l.block-index l.others)) ≤ ors_size (ors_tree l.fn.others);
   read : BlocksAreAhead (lines_of l.context.tokens.now) l.context.in_loop l.choices.items l.scope
-      (drop l.block-index l.others) l.fn.scope (l.fn.first.now ∷ l.fn.second.now ∷ l.fn.others);
+      (drop l.block-index l.others) l.fn.scope (l.fn.first ∷ l.fn.second ∷ l.fn.others);
 }
