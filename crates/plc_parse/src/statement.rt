@@ -1,6 +1,5 @@
 // Statements that hold no block of statements.
 ghost use Rattle.std.specs.Prelude.{ℕ, Bool, List, IfOk, map};
-ghost use Rattle.plc_lang.specs.Views.{statement_of};
 ghost use Rattle.plc_syntax.specs.Views.{placed_as, name_tree, name_or_none, argument_tree, primitive_tree};
 ghost use Rattle.plc_scope.specs.Answers.{Gives};
 ghost use Rattle.plc_syntax.specs.Trees.{PrimitiveStatement, AtomicStatement, CallStatement};

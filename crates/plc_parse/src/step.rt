@@ -1,7 +1,6 @@
 // Primitives that are one step: those of an atomic block and those of `init`. A step has at most 64,
 // of which one allocates; `skip` counts for none.
-ghost use Rattle.std.specs.Prelude.{◌≡◌, ◌==◌, ◌+◌, ◌≤◌, if◌then◌else◌, Option, Some, Result, Ok, false};
-ghost use Rattle.std.specs.Prelude.{length, map};
+ghost use Rattle.std.specs.Prelude.{◌≡◌, ◌==◌, ◌+◌, ◌≤◌, if◌then◌else◌, Option, Some, Result, Ok, false, length, map};
 ghost use Rattle.plc_base.specs.Limits.{most};
 ghost use Rattle.plc_lang.specs.declared.syntax.Primitive.{Primitive};
 ghost use Rattle.plc_syntax.specs.Views.{placed_as};

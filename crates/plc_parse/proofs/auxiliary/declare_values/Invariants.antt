@@ -1,4 +1,4 @@
-use Rattle.std.proofs.Common.{◌≡◌, ◌+◌, ◌≤◌, [], ◌∷◌, drop, length}
+use Rattle.std.proofs.Common.{◌≡◌, ◌+◌, ◌≤◌, ◌∷◌, drop, length}
 use Rattle.plc_syntax.specs.Views.{name_tree}
 use Rattle.plc_scope.proofs.Turns.{ahead}
 use Rattle.plc_parse.specs.Growth.{KeepsLists}
