@@ -176,16 +176,16 @@ cas_tokens false n old new k l e f =
     ∙ ap (λ ts. k ∷ Symbol Comma ∷ ts) (null_token new l f (symbol CloseParen ∷ [])))
 
 -- the text of a `cas`, with or without `active`
-pub cas_text : (shown given : Bool) (n called : Text) (old new : Option (Placed Text)) (k l : TokenKind) → kinds_of (name_or_null_then old []) ≡ k ∷ [] → kinds_of (name_or_null_then new []) ≡ l ∷ [] → n ≡ called → given ≡ shown
-    → text_of (kinds_of (word Cas ∷ symbol OpenParen ∷ word_if_then Active shown (plain (Name n) ∷ symbol Comma ∷ plain k ∷ symbol Comma ∷ plain l ∷ symbol CloseParen ∷ [])))
+pub cas_text : (shown given : Bool) (n : TokenKind) (called : Text) (old new : Option (Placed Text)) (k l : TokenKind) → kinds_of (name_or_null_then old []) ≡ k ∷ [] → kinds_of (name_or_null_then new []) ≡ l ∷ [] → n ≡ Name called → given ≡ shown
+    → text_of (kinds_of (word Cas ∷ symbol OpenParen ∷ word_if_then Active shown (plain n ∷ symbol Comma ∷ plain k ∷ symbol Comma ∷ plain l ∷ symbol CloseParen ∷ [])))
     ≡ text_of (kinds_of (condition_then (CasCondition given (at_place 0 called) old new) []))
 cas_text true given n called old new k l e f same chosen =
-    sym (ap text_of (cas_tokens true (at_place 0 n) old new k l e f))
-    ∙ ap (λ (m : Text). text_of (kinds_of (condition_then (CasCondition true (at_place 0 m) old new) []))) same
+    ap (λ m. text_of (kinds_of (word Cas ∷ symbol OpenParen ∷ word Active ∷ plain m ∷ symbol Comma ∷ plain k ∷ symbol Comma ∷ plain l ∷ symbol CloseParen ∷ []))) same
+    ∙ sym (ap text_of (cas_tokens true (at_place 0 called) old new k l e f))
     ∙ ap (λ (a : Bool). text_of (kinds_of (condition_then (CasCondition a (at_place 0 called) old new) []))) (sym chosen)
 cas_text false given n called old new k l e f same chosen =
-    sym (ap text_of (cas_tokens false (at_place 0 n) old new k l e f))
-    ∙ ap (λ (m : Text). text_of (kinds_of (condition_then (CasCondition false (at_place 0 m) old new) []))) same
+    ap (λ m. text_of (kinds_of (word Cas ∷ symbol OpenParen ∷ plain m ∷ symbol Comma ∷ plain k ∷ symbol Comma ∷ plain l ∷ symbol CloseParen ∷ []))) same
+    ∙ sym (ap text_of (cas_tokens false (at_place 0 called) old new k l e f))
     ∙ ap (λ (a : Bool). text_of (kinds_of (condition_then (CasCondition a (at_place 0 called) old new) []))) (sym chosen)
 
 -- ---- statements
