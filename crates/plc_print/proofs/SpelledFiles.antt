@@ -22,7 +22,7 @@ use Rattle.plc_scope.specs.Primitives.{initial_means}
 use Rattle.plc_logic.specs.declared.clause.Outline.{Outline}
 use Rattle.plc_parse.specs.declared.unit.Unit.{Unit as FileUnit}
 use Rattle.plc_parse.specs.Meaning.{listed, field_means, shared_means, function_means, ghost_means, watch_means}
-use Rattle.plc_parse.specs.Meaning.{initials_mean, init_means, placed_op_means, outlined_means, retire, file_means}
+use Rattle.plc_parse.specs.Meaning.{forms_mean, init_means, placed_op_means, outlined_means, retire, file_means}
 use Rattle.plc_scope.proofs.Holds.{Has, has_along, next}
 use Rattle.plc_print.specs.Canonical.{watch_tree, initial_tree, init_tree, canonical_tree}
 use Rattle.plc_lang.specs.Names.{name_at}
@@ -80,7 +80,7 @@ module _ (file : File) (s : Scope) (bound : Bound file s) where
     init_found None = record { tree = λ e. refl; again = refl }
     init_found (Some []) = record { tree = λ e. refl; again = refl }
     init_found (Some (i ∷ is)) =
-        along (Initials (i ∷ is)) (InitRead (Some (i ∷ is))) (initials_mean s (i ∷ is)) _
+        along (Initials (i ∷ is)) (InitRead (Some (i ∷ is))) (forms_mean (initial_means s) 0 false (i ∷ is)) _
         (forms_found (initial_means s) unplaced_initial (λ i. true) (IsInitial file s bound) (Ends file s) (initial_tree file) (λ i h. absurd h) (λ i k h. (refl, h)) (initial_found file s bound none) 0 false (i ∷ is)) (λ ks f e. record {
           tree = λ e. with_primitives ks (unplaced_by unplaced_initial i) (unplaced_sets is) (f.tree e ∙ ap unplaced_sets (all_stay (i ∷ is)));
           again = e;

@@ -47,8 +47,7 @@ pub fn print(alloc: Global, unit: &Unit) -> Result<Vec<u8>, NoMemory>
     print_parts(alloc, &unit.file, unit.observer, &unit.outline)
 }
 
-/// The canonical text of the unit that has these parts, for a caller that has it in parts. Its one error is that memory
-/// ran out.
+/// The same, for a caller that has the unit in parts.
 pub fn print_parts(
     alloc: Global,
     file: &File,
