@@ -38,13 +38,13 @@ use Rattle.plc_scope.specs.Scope.{◌>>=◌, known, if_fits, needed, role_of, ro
 use Rattle.plc_scope.specs.Scope.{as_pointer_local, as_data, as_pointer_field, as_data_field, as_function, as_auxiliary}
 use Rattle.plc_scope.specs.Scope.{as_value_of, as_thread, if_new, with_name, declared, declared_label, declared_local}
 use Rattle.plc_scope.specs.Scope.{declared_parameter, may_name_local, has_local, local_number, most_locals, local_limit}
-use Rattle.plc_scope.specs.Scope.{with_local, as_protecting, as_without_pointer}
+use Rattle.plc_scope.specs.Scope.{with_local}
 use Rattle.plc_scope.specs.Limits.{within_limit}
 use Rattle.plc_scope.specs.Primitives.{with_number, pointer_value, data_value, value_into, pointer_atom, atom_into}
 use Rattle.plc_scope.specs.Primitives.{set_means, refresh_from, refresh_name_means, refresh_means, ghost_value_means}
 use Rattle.plc_scope.specs.Primitives.{ghost_set_means, pointer_equality, pointer_test, test_of, test_means, relation}
 use Rattle.plc_scope.specs.Primitives.{pointer_or_null, condition_means, primitive_means, initial_means, argument_means}
-use Rattle.plc_scope.specs.Primitives.{call_means}
+use Rattle.plc_scope.specs.Primitives.{CallMeaning, call_means}
 
 -- both are answered, and their answers stand in a relation; or neither is
 abbrev pub Alike : {A B : Type 0} → (A → B → Type 0) → Result A ParseFault → Result B ParseFault → Type 0
@@ -89,21 +89,15 @@ limit_same n what r q h = by (n == most what)
     by false = h
 
 -- neither is answered, whichever fault goes first
-pub refused_same : {A : Type 0} (a b c : Bool) (e d f : ParseFault)
+pub refused_same : (A : Type 0) (a b c : Bool) (e d f : ParseFault)
     → Same {A = A} (if a then Err e else (if c then Err f else Err e)) (if b then Err d else (if c then Err f else Err d))
-refused_same true true c e d f = tt
-refused_same true false true e d f = tt
-refused_same true false false e d f = tt
-refused_same false true true e d f = tt
-refused_same false true false e d f = tt
-refused_same false false true e d f = tt
-refused_same false false false e d f = tt
-
--- what one has, the other has
-pub answered : {A : Type 0} (r q : Result A ParseFault) (x : A) → Same r q → r ≡ Ok x → q ≡ Ok x
-answered (Ok y) (Ok z) x h e = let first : y ≡ x = cc in subst (λ w. Ok w ≡ Ok x) h (rw first refl)
-answered (Err e) q x h f = absurd cc
-answered (Ok y) (Err e) x h f = absurd h
+refused_same A true true c e d f = tt
+refused_same A true false true e d f = tt
+refused_same A true false false e d f = tt
+refused_same A false true true e d f = tt
+refused_same A false true false e d f = tt
+refused_same A false false true e d f = tt
+refused_same A false false false e d f = tt
 
 -- ---- names
 
@@ -136,7 +130,8 @@ module _ (s : Scope) where
   number_local_same None n = refl
   number_local_same (Some i) n = by (may_name_local (slice_get s.bindings i) (has_local s.locals i))
     where
-      by : (b : Bool) → Same (if b then Ok (i, s) else Err (faults.Duplicate n.at)) (if b then Ok (i, s) else Err (faults.Duplicate 0))
+      by : (b : Bool) → Same {A = ℕ × Scope} (if b then Ok (i, s) else Err (faults.Duplicate n.at))
+          (if b then Ok (i, s) else Err (faults.Duplicate 0))
       by true = refl
       by false = tt
 
@@ -158,49 +153,10 @@ module _ (s : Scope) where
 
   -- ---- uses
 
-  pub protecting_same : (n : Placed Text) → Same (role_as as_protecting s n) (role_as as_protecting s (unplaced n))
+  pub name_same : {A : Type 0} (wanted : Role → Option A) (n : Placed Text)
+      → Same (role_as wanted s n) (role_as wanted s (unplaced n))
   unfolding role_as
-  protecting_same n = needed_same _ n.at 0 (role_of s n.value)
-
-  pub without_pointer_same : (n : Placed Text) → Same (role_as as_without_pointer s n) (role_as as_without_pointer s (unplaced n))
-  unfolding role_as
-  without_pointer_same n = needed_same _ n.at 0 (role_of s n.value)
-
-  pointer_same : (n : Placed Text) → Same (role_as as_pointer s n) (role_as as_pointer s (unplaced n))
-  unfolding role_as
-  pointer_same n = needed_same _ n.at 0 (role_of s n.value)
-
-  pointer_local_same : (n : Placed Text) → Same (role_as as_pointer_local s n) (role_as as_pointer_local s (unplaced n))
-  unfolding role_as
-  pointer_local_same n = needed_same _ n.at 0 (role_of s n.value)
-
-  data_same : (n : Placed Text) → Same (role_as as_data s n) (role_as as_data s (unplaced n))
-  unfolding role_as
-  data_same n = needed_same _ n.at 0 (role_of s n.value)
-
-  pointer_field_same : (n : Placed Text) → Same (role_as as_pointer_field s n) (role_as as_pointer_field s (unplaced n))
-  unfolding role_as
-  pointer_field_same n = needed_same _ n.at 0 (role_of s n.value)
-
-  data_field_same : (n : Placed Text) → Same (role_as as_data_field s n) (role_as as_data_field s (unplaced n))
-  unfolding role_as
-  data_field_same n = needed_same _ n.at 0 (role_of s n.value)
-
-  function_same : (n : Placed Text) → Same (role_as as_function s n) (role_as as_function s (unplaced n))
-  unfolding role_as
-  function_same n = needed_same _ n.at 0 (role_of s n.value)
-
-  auxiliary_same : (n : Placed Text) → Same (role_as as_auxiliary s n) (role_as as_auxiliary s (unplaced n))
-  unfolding role_as
-  auxiliary_same n = needed_same _ n.at 0 (role_of s n.value)
-
-  value_same : (g : ℕ) (n : Placed Text) → Same (role_as (as_value_of g) s n) (role_as (as_value_of g) s (unplaced n))
-  unfolding role_as
-  value_same g n = needed_same _ n.at 0 (role_of s n.value)
-
-  thread_same : (n : Placed Text) → Same (role_as as_thread s n) (role_as as_thread s (unplaced n))
-  unfolding role_as
-  thread_same n = needed_same _ n.at 0 (role_of s n.value)
+  name_same wanted n = needed_same wanted n.at 0 (role_of s n.value)
 
   role_same : (n : Placed Text) → Same (role_at s n) (role_at s (unplaced n))
   role_same n = known_same n.at 0 (role_of s n.value)
@@ -211,11 +167,11 @@ module _ (s : Scope) where
   pointer_value_same p (NullValue at) = refl
   pointer_value_same p (NewValue at) = refl
   pointer_value_same p (NumberValue n) = tt
-  pointer_value_same p (MarkValue at n) = then_same _ _ _ _ (pointer_same n) (λ q. refl)
-  pointer_value_same p (UnmarkValue at n) = then_same _ _ _ _ (pointer_same n) (λ q. refl)
-  pointer_value_same p (PlaceValue (PlaceOf n None)) = then_same _ _ _ _ (pointer_same n) (λ q. refl)
+  pointer_value_same p (MarkValue at n) = then_same _ _ _ _ (name_same as_pointer n) (λ q. refl)
+  pointer_value_same p (UnmarkValue at n) = then_same _ _ _ _ (name_same as_pointer n) (λ q. refl)
+  pointer_value_same p (PlaceValue (PlaceOf n None)) = then_same _ _ _ _ (name_same as_pointer n) (λ q. refl)
   pointer_value_same p (PlaceValue (PlaceOf n (Some f))) =
-      then_same _ _ _ _ (pointer_same n) (λ q. then_same _ _ _ _ (pointer_field_same f) (λ g. refl))
+      then_same _ _ _ _ (name_same as_pointer n) (λ q. then_same _ _ _ _ (name_same as_pointer_field f) (λ g. refl))
 
   data_value_same : (x : ℕ) (v : ValueTree) → Same (data_value s x v) (data_value s x (unplaced_value v))
   data_value_same x (NullValue at) = tt
@@ -223,9 +179,9 @@ module _ (s : Scope) where
   data_value_same x (NumberValue n) = refl
   data_value_same x (MarkValue at n) = tt
   data_value_same x (UnmarkValue at n) = tt
-  data_value_same x (PlaceValue (PlaceOf n None)) = then_same _ _ _ _ (data_same n) (λ y. refl)
+  data_value_same x (PlaceValue (PlaceOf n None)) = then_same _ _ _ _ (name_same as_data n) (λ y. refl)
   data_value_same x (PlaceValue (PlaceOf n (Some f))) =
-      then_same _ _ _ _ (pointer_same n) (λ q. then_same _ _ _ _ (data_field_same f) (λ g. refl))
+      then_same _ _ _ _ (name_same as_pointer n) (λ q. then_same _ _ _ _ (name_same as_data_field f) (λ g. refl))
 
   value_into_same : (v : ValueTree) (n : Placed Text) (left : Role)
       → Same (value_into s v n left) (value_into s (unplaced_value v) (unplaced n) left)
@@ -237,13 +193,13 @@ module _ (s : Scope) where
       → Same (with_number s a make) (with_number s (unplaced_atom a) make)
   number_same (NullAtom at) make = tt
   number_same (NumberAtom n) make = refl
-  number_same (NameAtom n) make = then_same _ _ _ _ (data_same n) (λ y. refl)
+  number_same (NameAtom n) make = then_same _ _ _ _ (name_same as_data n) (λ y. refl)
 
   pointer_atom_same : (p : Var) (f : FieldId) (a : AtomTree)
       → Same (pointer_atom s p f a) (pointer_atom s p f (unplaced_atom a))
   pointer_atom_same p f (NullAtom at) = refl
   pointer_atom_same p f (NumberAtom n) = tt
-  pointer_atom_same p f (NameAtom n) = then_same _ _ _ _ (pointer_same n) (λ q. refl)
+  pointer_atom_same p f (NameAtom n) = then_same _ _ _ _ (name_same as_pointer n) (λ q. refl)
 
   atom_into_same : (p : Var) (a : AtomTree) (n : Placed Text) (field : Role)
       → Same (atom_into s p a n field) (atom_into s p (unplaced_atom a) (unplaced n) field)
@@ -254,33 +210,33 @@ module _ (s : Scope) where
   set_same : (t : SetTree) → Same (set_means s t) (set_means s (unplaced_set t))
   unfolding set_means
   set_same (SetName n v) = then_same _ _ _ _ (role_same n) (λ left. value_into_same v n left)
-  set_same (SetField n f a) = then_same _ _ _ _ (pointer_same n) (λ p.
+  set_same (SetField n f a) = then_same _ _ _ _ (name_same as_pointer n) (λ p.
       then_same _ _ _ _ (role_same f) (λ field. atom_into_same p a f field))
 
   -- ---- refreshes
 
   refresh_from_same : (p : ℕ) (place : PlaceTree) → Same (refresh_from s p place) (refresh_from s p (unplaced_place place))
-  refresh_from_same p (PlaceOf n None) = then_same _ _ _ _ (pointer_same n) (λ q. refl)
+  refresh_from_same p (PlaceOf n None) = then_same _ _ _ _ (name_same as_pointer n) (λ q. refl)
   refresh_from_same p (PlaceOf n (Some f)) =
-      then_same _ _ _ _ (pointer_same n) (λ q. then_same _ _ _ _ (pointer_field_same f) (λ g. refl))
+      then_same _ _ _ _ (name_same as_pointer n) (λ q. then_same _ _ _ _ (name_same as_pointer_field f) (λ g. refl))
 
   refresh_name_same : (n : Placed Text) (place : PlaceTree)
       → Same (refresh_name_means s n place) (refresh_name_means s (unplaced n) (unplaced_place place))
   unfolding refresh_name_means
-  refresh_name_same n place = then_same _ _ _ _ (pointer_local_same n) (λ p. refresh_from_same p place)
+  refresh_name_same n place = then_same _ _ _ _ (name_same as_pointer_local n) (λ p. refresh_from_same p place)
 
   refresh_same : (t : RefreshTree) → Same (refresh_means s t) (refresh_means s (unplaced_refresh t))
   unfolding refresh_means
   refresh_same (RefreshName n place) = refresh_name_same n place
-  refresh_same (RefreshField n f m) = then_same _ _ _ _ (pointer_same n) (λ p.
-      then_same _ _ _ _ (pointer_field_same f) (λ g. then_same _ _ _ _ (pointer_same m) (λ q. refl)))
+  refresh_same (RefreshField n f m) = then_same _ _ _ _ (name_same as_pointer n) (λ p.
+      then_same _ _ _ _ (name_same as_pointer_field f) (λ g. then_same _ _ _ _ (name_same as_pointer m) (λ q. refl)))
 
   -- ---- auxiliary fields
 
   ghost_value_same : (in_init : Bool) (g : ℕ) (t : Bool) (v : GhostValueTree)
       → Same (ghost_value_means s in_init g t v) (ghost_value_means s in_init g t (unplaced_ghost_value v))
-  ghost_value_same in_init g false (NameGhost n) = then_same _ _ _ _ (value_same g n) (λ v. refl)
-  ghost_value_same in_init g true (NameGhost n) = then_same _ _ _ _ (thread_same n) (λ v. refl)
+  ghost_value_same in_init g false (NameGhost n) = then_same _ _ _ _ (name_same (as_value_of g) n) (λ v. refl)
+  ghost_value_same in_init g true (NameGhost n) = then_same _ _ _ _ (name_same as_thread n) (λ v. refl)
   ghost_value_same in_init g false (MeGhost at) = tt
   ghost_value_same false g true (MeGhost at) = refl
   ghost_value_same true g true (MeGhost at) = tt
@@ -290,8 +246,9 @@ module _ (s : Scope) where
   ghost_set_same : (in_init : Bool) (t : GhostSetTree)
       → Same (ghost_set_means s in_init t) (ghost_set_means s in_init (unplaced_ghost_set t))
   unfolding ghost_set_means
-  ghost_set_same in_init (SetGhost n f v) = then_same _ _ _ _ (pointer_same n) (λ p.
-      then_same _ _ _ _ (auxiliary_same f) (λ g. then_same _ _ _ _ (ghost_value_same in_init g.0 g.1 v) (λ w. refl)))
+  ghost_set_same in_init (SetGhost n f v) = then_same _ _ _ _ (name_same as_pointer n) (λ p.
+      then_same _ _ _ _ (name_same as_auxiliary f) (λ g.
+      then_same _ _ _ _ (ghost_value_same in_init g.0 g.1 v) (λ w. refl)))
 
   -- ---- tests and conditions
 
@@ -299,7 +256,7 @@ module _ (s : Scope) where
       → Same (pointer_equality s p is_equal a) (pointer_equality s p is_equal (unplaced_atom a))
   equality_same p is_equal (NullAtom at) = refl
   equality_same p is_equal (NumberAtom n) = tt
-  equality_same p is_equal (NameAtom n) = then_same _ _ _ _ (pointer_same n) (λ q. refl)
+  equality_same p is_equal (NameAtom n) = then_same _ _ _ _ (name_same as_pointer n) (λ q. refl)
 
   pointer_test_same : (p : Var) (at : ℕ) (c : Comparison) (a : AtomTree)
       → Same (pointer_test s p at c a) (pointer_test s p 0 c (unplaced_atom a))
@@ -316,19 +273,19 @@ module _ (s : Scope) where
 
   test_same : (t : TestTree) → Same (test_means s t) (test_means s (unplaced_test t))
   unfolding test_means
-  test_same (MarkedTest n) = then_same _ _ _ _ (pointer_same n) (λ p. refl)
-  test_same (UnmarkedTest n) = then_same _ _ _ _ (pointer_same n) (λ p. refl)
+  test_same (MarkedTest n) = then_same _ _ _ _ (name_same as_pointer n) (λ p. refl)
+  test_same (UnmarkedTest n) = then_same _ _ _ _ (name_same as_pointer n) (λ p. refl)
   test_same (Compares n c a) = then_same _ _ _ _ (role_same n) (λ left. test_of_same n c a left)
 
   or_null_same : (n : Option (Placed Text)) → Same (pointer_or_null s n) (pointer_or_null s (unplaced_label n))
   or_null_same None = refl
-  or_null_same (Some n) = then_same _ _ _ _ (pointer_same n) (λ q. refl)
+  or_null_same (Some n) = then_same _ _ _ _ (name_same as_pointer n) (λ q. refl)
 
   pub condition_same : (c : ConditionTree) → Same (condition_means s c) (condition_means s (unplaced_condition c))
   unfolding condition_means
   condition_same (TestCondition t) = then_same _ _ _ _ (test_same t) (λ k. refl)
   condition_same (RefreshCondition n place) = then_same _ _ _ _ (refresh_name_same n place) (λ k. refl)
-  condition_same (CasCondition is_active n old new) = then_same _ _ _ _ (pointer_same n) (λ p.
+  condition_same (CasCondition is_active n old new) = then_same _ _ _ _ (name_same as_pointer n) (λ p.
       then_same _ _ _ _ (or_null_same old) (λ q. then_same _ _ _ _ (or_null_same new) (λ r. refl)))
 
   -- ---- primitives and calls
@@ -338,7 +295,7 @@ module _ (s : Scope) where
   primitive_same (SetPrimitive set) = then_same _ _ _ _ (set_same set) (λ k. refl)
   primitive_same (RefreshPrimitive refresh) = then_same _ _ _ _ (refresh_same refresh) (λ k. refl)
   primitive_same (GhostPrimitive set) = then_same _ _ _ _ (ghost_set_same false set) (λ k. refl)
-  primitive_same (ActivePrimitive n) = then_same _ _ _ _ (pointer_same n) (λ p. refl)
+  primitive_same (ActivePrimitive n) = then_same _ _ _ _ (name_same as_pointer n) (λ p. refl)
   primitive_same (AssumePrimitive t) = then_same _ _ _ _ (test_same t) (λ k. refl)
   primitive_same SkipPrimitive = refl
 
@@ -356,13 +313,13 @@ module _ (s : Scope) where
   argument_same n f true NoArgument = tt
   argument_same n f true NullArgument = retired (is_retire f)
     where
-      retired : (b : Bool) → Same (if b then Err (faults.NoSuchCall n.at) else Ok (f, args.Null, false))
+      retired : (b : Bool) → Same {A = CallMeaning} (if b then Err (faults.NoSuchCall n.at) else Ok (f, args.Null, false))
           (if b then Err (faults.NoSuchCall 0) else Ok (f, args.Null, false))
       retired true = tt
       retired false = refl
-  argument_same n f true (NameArgument m) = then_same _ _ _ _ (pointer_same m) (λ p. refl)
-  argument_same n f true (ActiveArgument m) = then_same _ _ _ _ (pointer_same m) (λ p. refl)
+  argument_same n f true (NameArgument m) = then_same _ _ _ _ (name_same as_pointer m) (λ p. refl)
+  argument_same n f true (ActiveArgument m) = then_same _ _ _ _ (name_same as_pointer m) (λ p. refl)
 
   pub call_same : (n : Placed Text) (a : ArgumentTree) → Same (call_means s n a) (call_means s (unplaced n) (unplaced_argument a))
   unfolding call_means
-  call_same n a = then_same _ _ _ _ (function_same n) (λ f. argument_same n f.0 f.1 a)
+  call_same n a = then_same _ _ _ _ (name_same as_function n) (λ f. argument_same n f.0 f.1 a)
