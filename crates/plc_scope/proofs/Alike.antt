@@ -38,7 +38,7 @@ use Rattle.plc_scope.specs.Scope.{◌>>=◌, known, if_fits, needed, role_of, ro
 use Rattle.plc_scope.specs.Scope.{as_pointer_local, as_data, as_pointer_field, as_data_field, as_function, as_auxiliary}
 use Rattle.plc_scope.specs.Scope.{as_value_of, as_thread, if_new, with_name, declared, declared_label, declared_local}
 use Rattle.plc_scope.specs.Scope.{declared_parameter, may_name_local, has_local, local_number, most_locals, local_limit}
-use Rattle.plc_scope.specs.Scope.{with_local}
+use Rattle.plc_scope.specs.Scope.{with_local, as_protecting, as_without_pointer}
 use Rattle.plc_scope.specs.Limits.{within_limit}
 use Rattle.plc_scope.specs.Primitives.{with_number, pointer_value, data_value, value_into, pointer_atom, atom_into}
 use Rattle.plc_scope.specs.Primitives.{set_means, refresh_from, refresh_name_means, refresh_means, ghost_value_means}
@@ -247,8 +247,7 @@ module _ (s : Scope) where
       → Same (ghost_set_means s in_init t) (ghost_set_means s in_init (unplaced_ghost_set t))
   unfolding ghost_set_means
   ghost_set_same in_init (SetGhost n f v) = then_same _ _ _ _ (name_same as_pointer n) (λ p.
-      then_same _ _ _ _ (name_same as_auxiliary f) (λ g.
-      then_same _ _ _ _ (ghost_value_same in_init g.0 g.1 v) (λ w. refl)))
+      then_same _ _ _ _ (name_same as_auxiliary f) (λ g. then_same _ _ _ _ (ghost_value_same in_init g.0 g.1 v) (λ w. refl)))
 
   -- ---- tests and conditions
 

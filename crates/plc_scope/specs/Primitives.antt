@@ -182,10 +182,14 @@ test_of s left c a (pointer_variable p) = pointer_test s p c.at c.value a
 test_of s left c a (data_local x) = data_test s x (relation c.value) a
 test_of s left c a _ = Err (faults.WrongSort left.at)
 
+-- whether the mark of a pointer variable is set, or isn't
+abbrev pub mark_test : Scope → Placed Text → Bool → Result Primitive ParseFault
+mark_test s n is_set = role_as as_pointer s n >>= λ p. Ok (MarkTest p is_set)
+
 -- the left side before the relation and the right
 unfoldable pub test_means : Scope → TestTree → Result Primitive ParseFault
-test_means s (MarkedTest n) = role_as as_pointer s n >>= λ p. Ok (MarkTest p true)
-test_means s (UnmarkedTest n) = role_as as_pointer s n >>= λ p. Ok (MarkTest p false)
+test_means s (MarkedTest n) = mark_test s n true
+test_means s (UnmarkedTest n) = mark_test s n false
 test_means s (Compares n c a) = role_at s n >>= λ left. test_of s n c a left
 
 -- ---- conditions

@@ -213,13 +213,21 @@ as_function (function f p) = Some (f, p)
 as_function _ = None
 
 -- a function with a pointer that isn't `retire`
+abbrev pub protecting : FuncId → Bool → Option FuncId
+protecting f p = if p && not (is_retire f) then Some f else None
+
+-- what a name is, where it is a function with a pointer that isn't `retire`
 abbrev pub as_protecting : Role → Option FuncId
-as_protecting (function f p) = if p && not (is_retire f) then Some f else None
+as_protecting (function f p) = protecting f p
 as_protecting _ = None
 
 -- a function without a pointer
+abbrev pub without_pointer : FuncId → Bool → Option FuncId
+without_pointer f p = if p then None else Some f
+
+-- what a name is, where it is a function without a pointer
 abbrev pub as_without_pointer : Role → Option FuncId
-as_without_pointer (function f p) = if p then None else Some f
+as_without_pointer (function f p) = without_pointer f p
 as_without_pointer _ = None
 
 -- an auxiliary field, and whether it holds a thread
@@ -228,8 +236,12 @@ as_auxiliary (auxiliary g t) = Some (g, t)
 as_auxiliary _ = None
 
 -- a value of auxiliary field h
+abbrev pub value_of_field : ℕ → ℕ → ℕ → Option ℕ
+value_of_field h g v = if g == h then Some v else None
+
+-- what a name is, where it is a value of auxiliary field h
 abbrev pub as_value_of : ℕ → Role → Option ℕ
-as_value_of h (value g v) = if g == h then Some v else None
+as_value_of h (value g v) = value_of_field h g v
 as_value_of h _ = None
 
 -- no name is a thread

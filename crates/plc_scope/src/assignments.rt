@@ -6,8 +6,8 @@
 ghost use Rattle.std.specs.Prelude.{◌≤◌, length};
 ghost use Rattle.plc_syntax.specs.Views.{name_tree, value_tree, atom_tree, set_tree};
 ghost use Rattle.plc_scope.specs.Answers.{Gives};
-ghost use Rattle.plc_scope.specs.Primitives.{pointer_value, data_value, value_into, pointer_atom, atom_into};
-ghost use Rattle.plc_scope.specs.Primitives.{set_means};
+ghost use Rattle.plc_scope.specs.Primitives.{pointer_value, data_value, value_into, pointer_atom};
+ghost use Rattle.plc_scope.specs.Primitives.{data_atom, atom_into, set_means};
 ghost use Rattle.plc_scope.specs.Scope.{most_locals};
 
 use crate::binding::Role;
@@ -16,7 +16,7 @@ use crate::numbers::number;
 use crate::scope::Scope;
 use plc_base::FieldId;
 use plc_lang::{Num, Prim, Var};
-use plc_syntax::{Atom, Name, Set, Value};
+use plc_syntax::{Atom, Name, Place, Set, Value};
 
 /// What is put into a pointer variable.
 fn pointer_value(scope: &Scope, p: Var, value: Value) -> Meaning<Prim>
@@ -27,8 +27,14 @@ fn pointer_value(scope: &Scope, p: Var, value: Value) -> Meaning<Prim>
         Value::Null(_) => Ok(Prim::Null { p }),
         Value::New(_) => Ok(Prim::New { p }),
         Value::Number(n) => Err(ParseFault::WrongSort { at: n.at }),
-        Value::Mark(_, name) => scope.pointer_at(name).map(|q| Prim::Mark { p, q }),
-        Value::Unmark(_, name) => scope.pointer_at(name).map(|q| Prim::Unmark { p, q }),
+        Value::Mark(_, name) => {
+            let q = scope.pointer_at(name)?;
+            Ok(Prim::Mark { p, q })
+        }
+        Value::Unmark(_, name) => {
+            let q = scope.pointer_at(name)?;
+            Ok(Prim::Unmark { p, q })
+        }
         Value::Place(place) => {
             let q = scope.pointer_at(place.name)?;
             match place.field {
@@ -55,17 +61,21 @@ fn data_value(scope: &Scope, x: u16, value: Value) -> Meaning<Prim>
             let e = Num::Lit(n.value);
             Ok(Prim::DataSet { x, e })
         }
-        Value::Place(place) => match place.field {
-            None => {
-                let e = Num::Local(scope.data_at(place.name)?);
-                Ok(Prim::DataSet { x, e })
-            }
-            Some(field) => {
-                let q = scope.pointer_at(place.name)?;
-                let f = scope.data_field_at(field)?;
-                Ok(Prim::DataLoad { x, q, f })
-            }
-        },
+        Value::Place(Place { name, field: None }) => {
+            let y = scope.data_at(name)?;
+            let e = Num::Local(y);
+            Ok(Prim::DataSet { x, e })
+        }
+        Value::Place(
+            Place {
+                name,
+                field: Some(field),
+            },
+        ) => {
+            let q = scope.pointer_at(name)?;
+            let f = scope.data_field_at(field)?;
+            Ok(Prim::DataLoad { x, q, f })
+        }
     }
 }
 
@@ -89,8 +99,20 @@ fn pointer_atom(scope: &Scope, p: Var, f: FieldId, atom: Atom) -> Meaning<Prim>
     match atom {
         Atom::Null(_) => Ok(Prim::StoreNull { p, f }),
         Atom::Number(n) => Err(ParseFault::WrongSort { at: n.at }),
-        Atom::Name(name) => scope.pointer_at(name).map(|q| Prim::Store { p, f, q }),
+        Atom::Name(name) => {
+            let q = scope.pointer_at(name)?;
+            Ok(Prim::Store { p, f, q })
+        }
     }
+}
+
+/// What is put into a data field.
+fn data_atom(scope: &Scope, p: Var, f: FieldId, atom: Atom) -> Meaning<Prim>
+    requires { length scope.now.locals ≤ most_locals }
+    ensures { Gives (λ k. k) result (data_atom scope.now p f (atom_tree atom.entry)) }
+{
+    let e = number(scope, atom)?;
+    Ok(Prim::DataStore { p, f, e })
 }
 
 /// What is put into the field, by what its name is.
@@ -100,7 +122,7 @@ fn atom_into(scope: &Scope, p: Var, atom: Atom, field: Name, role: Role) -> Mean
 {
     match role {
         Role::PointerField(f) => pointer_atom(scope, p, f, atom),
-        Role::DataField(f) => number(scope, atom).map(|e| Prim::DataStore { p, f, e }),
+        Role::DataField(f) => data_atom(scope, p, f, atom),
         _ => Err(ParseFault::WrongSort { at: field.at }),
     }
 }

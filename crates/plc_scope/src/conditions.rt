@@ -5,8 +5,8 @@
 ghost use Rattle.std.specs.Prelude.{◌≤◌, length, ◌≡◌};
 ghost use Rattle.plc_syntax.specs.Views.{name_tree, name_or_none, atom_tree, relation_tree, test_tree, condition_tree};
 ghost use Rattle.plc_scope.specs.Answers.{Gives};
-ghost use Rattle.plc_scope.specs.Primitives.{pointer_test, relation, test_means, pointer_or_null, cas_means};
-ghost use Rattle.plc_scope.specs.Primitives.{condition_means};
+ghost use Rattle.plc_scope.specs.Primitives.{pointer_equality, pointer_test, relation, data_test, mark_test};
+ghost use Rattle.plc_scope.specs.Primitives.{test_means, pointer_or_null, cas_means, condition_means};
 ghost use Rattle.plc_scope.specs.Scope.{most_locals};
 
 use crate::binding::Role;
@@ -17,19 +17,36 @@ use crate::scope::Scope;
 use plc_lang::{Cond, Prim, Rel, Var};
 use plc_syntax::{Atom, Cas, Condition, Name, Placed, Relation, Test};
 
+/// A test of equality of pointers, or its opposite.
+fn pointer_equality(scope: &Scope, p: Var, is_equal: bool, atom: Atom) -> Meaning<Prim>
+    requires { length scope.now.locals ≤ most_locals }
+    ensures { Gives (λ k. k) result (pointer_equality scope.now p is_equal (atom_tree atom.entry)) }
+{
+    match atom {
+        Atom::Null(_) if is_equal => Ok(Prim::IsNull { p }),
+        Atom::Null(_) => Ok(Prim::NotNull { p }),
+        Atom::Number(n) => Err(ParseFault::WrongSort { at: n.at }),
+        Atom::Name(name) => {
+            let q = scope.pointer_at(name)?;
+            Ok(if is_equal {
+                Prim::Eq { p, q }
+            } else {
+                Prim::Ne { p, q }
+            })
+        }
+    }
+}
+
 /// A test of pointers, which have no order.
 fn pointer_test(scope: &Scope, p: Var, relation: Placed<Relation>, atom: Atom) -> Meaning<Prim>
     requires { length scope.now.locals ≤ most_locals }
     ensures { Gives (λ k. k) result (pointer_test scope.now p relation.at (relation_tree relation.value)
         (atom_tree atom.entry)) }
 {
-    match (relation.value, atom) {
-        (Relation::Less | Relation::NotLess, _) => Err(ParseFault::WrongSort { at: relation.at }),
-        (_, Atom::Number(n)) => Err(ParseFault::WrongSort { at: n.at }),
-        (Relation::Same, Atom::Null(_)) => Ok(Prim::IsNull { p }),
-        (Relation::Other, Atom::Null(_)) => Ok(Prim::NotNull { p }),
-        (Relation::Same, Atom::Name(name)) => scope.pointer_at(name).map(|q| Prim::Eq { p, q }),
-        (Relation::Other, Atom::Name(name)) => scope.pointer_at(name).map(|q| Prim::Ne { p, q }),
+    match relation.value {
+        Relation::Same => pointer_equality(scope, p, true, atom),
+        Relation::Other => pointer_equality(scope, p, false, atom),
+        Relation::Less | Relation::NotLess => Err(ParseFault::WrongSort { at: relation.at }),
     }
 }
 
@@ -45,28 +62,39 @@ fn data_relation(form: Relation) -> Rel
     }
 }
 
+/// What a data local is compared with.
+fn data_test(scope: &Scope, x: u16, rel: Rel, atom: Atom) -> Meaning<Prim>
+    requires { length scope.now.locals ≤ most_locals }
+    ensures { Gives (λ k. k) result (data_test scope.now x rel (atom_tree atom.entry)) }
+{
+    let e = number(scope, atom)?;
+    Ok(Prim::DataTest { rel, x, e })
+}
+
+/// A test of the mark of a pointer variable.
+fn mark_test(scope: &Scope, name: Name, yes: bool) -> Meaning<Prim>
+    requires { length scope.now.locals ≤ most_locals }
+    ensures { Gives (λ k. k) result (mark_test scope.now (name_tree name.entry) yes) }
+{
+    let p = scope.pointer_at(name)?;
+    Ok(Prim::MarkTest { p, yes })
+}
+
 /// The primitive of a test: `Undeclared` or `WrongSort` at the least token that can't stand there.
 pub fn test(scope: &Scope, test: Test) -> Meaning<Prim>
     requires { length scope.now.locals ≤ most_locals }
     ensures { Gives (λ k. k) result (test_means scope.now (test_tree test.entry)) }
 {
     match test {
-        Test::Marked(name) => scope
-            .pointer_at(name)
-            .map(|p| Prim::MarkTest { p, yes: true }),
-        Test::Unmarked(name) => scope
-            .pointer_at(name)
-            .map(|p| Prim::MarkTest { p, yes: false }),
+        Test::Marked(name) => mark_test(scope, name, true),
+        Test::Unmarked(name) => mark_test(scope, name, false),
         Test::Compares {
             name,
             relation,
             atom,
         } => match scope.role(name)? {
             Role::PointerVariable(p) => pointer_test(scope, p, relation, atom),
-            Role::DataLocal(x) => {
-                let rel = data_relation(relation.value);
-                number(scope, atom).map(|e| Prim::DataTest { rel, x, e })
-            }
+            Role::DataLocal(x) => data_test(scope, x, data_relation(relation.value), atom),
             _ => Err(ParseFault::WrongSort { at: name.at }),
         },
     }
@@ -79,7 +107,7 @@ fn pointer_or_null(scope: &Scope, name: Option<Name>) -> Meaning<Option<Var>>
 {
     match name {
         None => Ok(None),
-        Some(name) => scope.pointer_at(name).map(|p| Some(p)),
+        Some(name) => Ok(Some(scope.pointer_at(name)?)),
     }
 }
 

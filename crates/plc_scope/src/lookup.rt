@@ -1,7 +1,5 @@
 // What names mean: each is looked up among the locals in reach first, and then among the names of the
 // file. In an operation a name without a declaration is a fault before one of the wrong kind.
-#![tactic(auto, unfolding(crate::specs::Scope::role_as))]
-
 ghost use Rattle.std.specs.Prelude.{◌≡◌, ◌<◌, ◌≤◌, length};
 ghost use Rattle.plc_syntax.specs.Views.{name_tree};
 ghost use Rattle.plc_scope.specs.Answers.{Gives};
@@ -120,10 +118,8 @@ impl Scope {
             .ok_or(ParseFault::Undeclared { at: name.at })
     }
 
-    // Each of these answers `Undeclared` for a name without a declaration in reach, and `WrongSort` for
-    // one that is another thing.
-
-    /// The pointer variable that a name is.
+    /// The pointer variable that a name is; `Undeclared`, or `WrongSort` for another thing.
+    #[tactic(auto, unfolding(crate::specs::Scope::role_as))]
     pub fn pointer_at(&self, name: Name) -> Meaning<Var>
         requires { length self.now.locals ≤ most_locals }
         ensures { Gives (λ variable. variable) result (role_as as_pointer self.now (name_tree name.entry)) }
@@ -131,7 +127,9 @@ impl Scope {
         wanted! { self, name; Role::PointerVariable(variable) => variable }
     }
 
-    /// The reclaimer function that a name is, and whether it takes a pointer.
+    /// The reclaimer function that a name is, and whether it takes a pointer; `Undeclared`, or
+    /// `WrongSort` for another thing.
+    #[tactic(auto, unfolding(crate::specs::Scope::role_as))]
     pub fn function_at(&self, name: Name) -> Meaning<(FuncId, bool)>
         requires { length self.now.locals ≤ most_locals }
         ensures { Gives (λ x. (x.0, x.1)) result (role_as as_function self.now (name_tree name.entry)) }
@@ -139,7 +137,9 @@ impl Scope {
         wanted! { self, name; Role::Function(function, takes_pointer) => (function, takes_pointer) }
     }
 
-    /// The auxiliary field that a name is, and whether it holds a thread.
+    /// The auxiliary field that a name is, and whether it holds a thread; `Undeclared`, or
+    /// `WrongSort` for another thing.
+    #[tactic(auto, unfolding(crate::specs::Scope::role_as))]
     pub fn auxiliary_at(&self, name: Name) -> Meaning<(u16, bool)>
         requires { length self.now.locals ≤ most_locals }
         ensures { Gives (λ x. (x.0, x.1)) result (role_as as_auxiliary self.now (name_tree name.entry)) }
@@ -147,7 +147,8 @@ impl Scope {
         wanted! { self, name; Role::Auxiliary(field, of_threads) => (field, of_threads) }
     }
 
-    /// The data local that a name is.
+    /// The data local that a name is; `Undeclared`, or `WrongSort` for another thing.
+    #[tactic(auto, unfolding(crate::specs::Scope::role_as))]
     pub fn data_at(&self, name: Name) -> Meaning<u16>
         requires { length self.now.locals ≤ most_locals }
         ensures { Gives (λ local. local) result (role_as as_data self.now (name_tree name.entry)) }
@@ -155,7 +156,9 @@ impl Scope {
         wanted! { self, name; Role::DataLocal(local) => local }
     }
 
-    /// The function that sets a hazard pointer: it takes a pointer and isn't `retire`.
+    /// The function that sets a hazard pointer: it takes a pointer and isn't `retire`; `Undeclared`, or
+    /// `WrongSort` for another thing.
+    #[tactic(auto, unfolding(crate::specs::Scope::role_as))]
     pub fn protecting_at(&self, name: Name) -> Meaning<FuncId>
         requires { length self.now.locals ≤ most_locals }
         ensures { Gives (λ x. x) result (role_as as_protecting self.now (name_tree name.entry)) }
@@ -163,7 +166,8 @@ impl Scope {
         wanted! { self, name; Role::Function(function, true) if !function.is_retire() => function }
     }
 
-    /// The pointer field that a name is.
+    /// The pointer field that a name is; `Undeclared`, or `WrongSort` for another thing.
+    #[tactic(auto, unfolding(crate::specs::Scope::role_as))]
     pub fn pointer_field_at(&self, name: Name) -> Meaning<FieldId>
         requires { length self.now.locals ≤ most_locals }
         ensures { Gives (λ field. field) result (role_as as_pointer_field self.now (name_tree name.entry)) }
@@ -171,7 +175,9 @@ impl Scope {
         wanted! { self, name; Role::PointerField(field) => field }
     }
 
-    /// The function that takes no pointer, such as those of an epoch.
+    /// The function that takes no pointer, such as those of an epoch; `Undeclared`, or `WrongSort` for
+    /// another thing.
+    #[tactic(auto, unfolding(crate::specs::Scope::role_as))]
     pub fn without_pointer_at(&self, name: Name) -> Meaning<FuncId>
         requires { length self.now.locals ≤ most_locals }
         ensures { Gives (λ x. x) result (role_as as_without_pointer self.now (name_tree name.entry)) }
@@ -179,7 +185,8 @@ impl Scope {
         wanted! { self, name; Role::Function(function, false) => function }
     }
 
-    /// The data field that a name is.
+    /// The data field that a name is; `Undeclared`, or `WrongSort` for another thing.
+    #[tactic(auto, unfolding(crate::specs::Scope::role_as))]
     pub fn data_field_at(&self, name: Name) -> Meaning<FieldId>
         requires { length self.now.locals ≤ most_locals }
         ensures { Gives (λ field. field) result (role_as as_data_field self.now (name_tree name.entry)) }
@@ -187,7 +194,8 @@ impl Scope {
         wanted! { self, name; Role::DataField(field) => field }
     }
 
-    /// The pointer local that a name is.
+    /// The pointer local that a name is; `Undeclared`, or `WrongSort` for another thing.
+    #[tactic(auto, unfolding(crate::specs::Scope::role_as))]
     pub fn pointer_local_at(&self, name: Name) -> Meaning<u16>
         requires { length self.now.locals ≤ most_locals }
         ensures { Gives (λ x. x) result (role_as as_pointer_local self.now (name_tree name.entry)) }
@@ -195,7 +203,9 @@ impl Scope {
         wanted! { self, name; Role::PointerVariable(Var::Local(local)) => local }
     }
 
-    /// The value that a name is, of the auxiliary field with this number.
+    /// The value that a name is, of the auxiliary field with this number; `Undeclared`, or
+    /// `WrongSort` for another thing.
+    #[tactic(auto, unfolding(crate::specs::Scope::role_as))]
     pub fn value_at(&self, field: u16, name: Name) -> Meaning<u16>
         requires { length self.now.locals ≤ most_locals }
         ensures { Gives (λ x. x) result (role_as (as_value_of field) self.now (name_tree name.entry)) }
@@ -204,6 +214,7 @@ impl Scope {
     }
 
     /// Where a thread is wanted no name can stand: `Undeclared`, or else `WrongSort`.
+    #[tactic(auto, unfolding(crate::specs::Scope::role_as))]
     pub fn thread_at(&self, name: Name) -> Meaning<u16>
         requires { length self.now.locals ≤ most_locals }
         ensures { Gives (λ x. x) result (role_as as_thread self.now (name_tree name.entry)) }

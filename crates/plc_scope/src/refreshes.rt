@@ -3,13 +3,27 @@
 ghost use Rattle.std.specs.Prelude.{◌≤◌, length};
 ghost use Rattle.plc_syntax.specs.Views.{name_tree, place_tree, refresh_tree, ghost_value_tree, ghost_set_tree};
 ghost use Rattle.plc_scope.specs.Answers.{Gives};
-ghost use Rattle.plc_scope.specs.Primitives.{refresh_name_means, refresh_means, ghost_value_means, ghost_set_means};
+ghost use Rattle.plc_scope.specs.Primitives.{refresh_from, refresh_name_means, refresh_means};
+ghost use Rattle.plc_scope.specs.Primitives.{ghost_value_means, ghost_set_means};
 ghost use Rattle.plc_scope.specs.Scope.{most_locals};
 
 use crate::fault::{Meaning, ParseFault};
 use crate::scope::Scope;
 use plc_lang::{GhostVal, Prim};
 use plc_syntax::{GhostSet, GhostValue, Name, Place, Refresh};
+
+/// What a pointer local is refreshed from.
+fn refresh_from(scope: &Scope, p: u16, place: Place) -> Meaning<Prim>
+    requires { length scope.now.locals ≤ most_locals }
+    ensures { Gives (λ k. k) result (refresh_from scope.now p (place_tree place.entry)) }
+{
+    let q = scope.pointer_at(place.name)?;
+    let Some(field) = place.field else {
+        return Ok(Prim::Refresh { p, q });
+    };
+    let f = scope.pointer_field_at(field)?;
+    Ok(Prim::RefreshLoad { p, q, f })
+}
 
 /// The primitive of a refresh into a pointer local.
 #[tactic(auto, unfolding(crate::specs::Primitives::refresh_name_means))]
@@ -19,13 +33,7 @@ pub fn refresh_into(scope: &Scope, name: Name, place: Place) -> Meaning<Prim>
         (refresh_name_means scope.now (name_tree name.entry) (place_tree place.entry)) }
 {
     let p = scope.pointer_local_at(name)?;
-    let q = scope.pointer_at(place.name)?;
-    match place.field {
-        None => Ok(Prim::Refresh { p, q }),
-        Some(field) => scope
-            .pointer_field_at(field)
-            .map(|f| Prim::RefreshLoad { p, q, f }),
-    }
+    refresh_from(scope, p, place)
 }
 
 /// The primitive of a refresh into a pointer local or into a pointer field.
