@@ -1,5 +1,6 @@
 -- Whether an outline has a meaning, and which, doesn't depend on its places: they say only where a fault is told.
-use Rattle.std.proofs.Common.{◌≡◌, ◌==◌, ◌+◌, ◌||◌, ℕ, Bool, true, false, if◌then◌else◌, List, [], ◌∷◌, Option, Some, None, Result, Ok, Err, length, map, refl}
+use Rattle.std.proofs.Common.{◌==◌, ◌+◌, ◌||◌, ℕ, Bool, true, false, if◌then◌else◌, List, [], ◌∷◌, Option, Some, None}
+use Rattle.std.proofs.Common.{Result, Ok, Err, length, map, refl}
 use Rattle.plc_base.specs.Limits.{most}
 use Rattle.plc_base.specs.declared.limits.What1.TheVariants as limits
 use Rattle.plc_base.specs.Names.{NameList, place_of}
@@ -7,19 +8,20 @@ use Rattle.plc_lang.specs.declared.syntax.Local.{Local}
 use Rattle.plc_lang.specs.declared.syntax.Op.{Op}
 use Rattle.plc_lang.specs.Locals.{locals_of}
 use Rattle.plc_lang.specs.Labels.{labels_by_op, op_of_label}
-use Rattle.plc_syntax.specs.Trees.{Text, Placed, PlaceTree, PlaceOf, TermTree, PlaceTerm, NullTerm, NumberTerm, MeTerm, NoneTerm}
-use Rattle.plc_syntax.specs.Trees.{FlagTree, RetiredFlag, MarkedFlag, LiteralTree, FlagLiteral, NotLiteral}
-use Rattle.plc_syntax.specs.Trees.{EqualityLiteral, BoundTree, NoBound, AllOf, ClauseTree, Claims, ItemTree, InvariantItem}
-use Rattle.plc_syntax.specs.Trees.{OverItem, AtItem, OutlineTree, Outlined}
-use Rattle.plc_syntax.proofs.Unplaced.{unplaced, unplaced_by, unplaced_maybe, unplaced_label, unplaced_place, unplaced_term}
-use Rattle.plc_syntax.proofs.Unplaced.{unplaced_flag, unplaced_literal, unplaced_bound, unplaced_clause, unplaced_item}
-use Rattle.plc_syntax.proofs.Unplaced.{unplaced_outline}
+use Rattle.plc_syntax.specs.Trees.{Text, Placed, PlaceTree, PlaceOf, TermTree, PlaceTerm, NullTerm, NumberTerm, MeTerm}
+use Rattle.plc_syntax.specs.Trees.{NoneTerm, FlagTree, RetiredFlag, MarkedFlag, LiteralTree, FlagLiteral, NotLiteral}
+use Rattle.plc_syntax.specs.Trees.{EqualityLiteral, BoundTree, NoBound, AllOf, ClauseTree, Claims, ItemTree}
+use Rattle.plc_syntax.specs.Trees.{InvariantItem, OverItem, AtItem, OutlineTree, Outlined}
+use Rattle.plc_syntax.proofs.Unplaced.{unplaced, unplaced_by, unplaced_maybe, unplaced_label, unplaced_place}
+use Rattle.plc_syntax.proofs.Unplaced.{unplaced_term, unplaced_flag, unplaced_literal, unplaced_bound, unplaced_clause}
+use Rattle.plc_syntax.proofs.Unplaced.{unplaced_item, unplaced_outline}
 use Rattle.plc_scope.specs.declared.fault.ParseFault.{ParseFault}
 use Rattle.plc_scope.specs.declared.fault.ParseFault.TheVariants as faults
 use Rattle.plc_scope.specs.declared.scope.Scope.{Scope}
-use Rattle.plc_scope.specs.Limits.{within_limit, stands_at}
-use Rattle.plc_scope.specs.Scope.{if_fits, if_new, known, with_last}
-use Rattle.plc_scope.proofs.Alike.{Same, same, then_same, fits_same, known_same, needed_same, new_same, limit_same, refused_same}
+use Rattle.plc_scope.specs.Limits.{stands_at}
+use Rattle.plc_scope.specs.Scope.{if_new, with_last}
+use Rattle.plc_scope.proofs.Alike.{Same, then_same, fits_same, known_same, needed_same, new_same, limit_same}
+use Rattle.plc_scope.proofs.Alike.{refused_same}
 use Rattle.plc_logic.specs.declared.clause.Base.{Base}
 use Rattle.plc_logic.specs.declared.clause.Literal.{Literal}
 use Rattle.plc_logic.specs.declared.clause.Sort.{Sort}
@@ -27,11 +29,11 @@ use Rattle.plc_logic.specs.Sorts.{same_sort}
 use Rattle.plc_outparse.specs.declared.kind.Kind.{Kind}
 use Rattle.plc_outparse.specs.Reach.{Reach, declared_kind, kind_of, kind_at, base_at, as_term, as_field, as_pointer}
 use Rattle.plc_outparse.specs.Reach.{as_pointer_field}
-use Rattle.plc_outparse.specs.Meaning.{in_turn, wanted_of, place_means, me_means, term_means, sort_place, if_same_sort}
-use Rattle.plc_outparse.specs.Meaning.{second_means, pointer_means, flag_means, literal_means, counted, literal_step}
-use Rattle.plc_outparse.specs.Meaning.{none_bound, if_free, bound_with, second_bound, bound_means, reach, clause_means}
-use Rattle.plc_outparse.specs.Meaning.{op_named, op_at, label_named, with_op, label_at, if_same_op, label_step}
-use Rattle.plc_outparse.specs.Meaning.{labels_mean, Parts, item_step, depth_means, outline_means}
+use Rattle.plc_outparse.specs.Meaning.{in_turn, wanted_of, me_means, term_means, sort_place, second_means, flag_means}
+use Rattle.plc_outparse.specs.Meaning.{literal_means, counted, literal_step, none_bound, if_free, bound_with}
+use Rattle.plc_outparse.specs.Meaning.{second_bound, bound_means, reach, clause_means, op_named, op_at, label_named}
+use Rattle.plc_outparse.specs.Meaning.{label_at, if_same_op, label_step, labels_mean, Parts, item_step, depth_means}
+use Rattle.plc_outparse.specs.Meaning.{outline_means}
 
 turns_same : {S X : Type 0} (step : S → X → Result S ParseFault) (bare : X → X)
     → ((s : S) (x : X) → Same (step s x) (step s (bare x))) → (s : S) (xs : List X)
@@ -90,7 +92,7 @@ module _ (r : Reach) where
   counted_same : (n a b : ℕ) (m o : Result Literal ParseFault) → Same m o → Same (counted n a m) (counted n b o)
   counted_same n a b (Ok x) (Ok y) h = limit_same n limits.Literals (Ok x) (Ok y) h
   counted_same n a b (Err e) (Err f) h =
-      refused_same (stands_at a e) (stands_at b f) (n == most limits.Literals) e f (faults.Limit limits.Literals (most limits.Literals + 1))
+      refused_same _ (stands_at a e) (stands_at b f) (n == most limits.Literals) e f (faults.Limit limits.Literals (most limits.Literals + 1))
   counted_same n a b (Ok x) (Err f) h = absurd h
   counted_same n a b (Err e) (Ok y) h = absurd h
 

@@ -35,16 +35,15 @@ use Rattle.plc_logic.specs.declared.clause.Clause.{Clause}
 use Rattle.plc_logic.specs.declared.clause.Site.{Site}
 use Rattle.plc_logic.specs.declared.clause.Site.TheVariants.{Over, At}
 use Rattle.plc_logic.specs.declared.clause.Item.{Item}
-use Rattle.plc_logic.specs.declared.clause.Outline.{Outline}
 use Rattle.plc_logic.specs.Fit.{InReach, IsNode, HasSort, HoldsPointer, pointer_sort, ghost_sort, LiteralFits, ClauseFits, InvariantFits, LabelsFit, SiteFits, ItemFits, OutlineFits}
 use Rattle.plc_lang.specs.Labels.{block_labels, labels_by_op, has_label, op_of_label}
 use Rattle.plc_outparse.specs.declared.kind.Kind.{Kind}
 use Rattle.plc_outparse.specs.declared.kind.Kind.TheVariants as kinds
 use Rattle.plc_outparse.specs.Fit.{holds_threads, NamesOf, OutlinesFit}
-use Rattle.plc_outparse.specs.Reach.{Reach, auxiliary_sort, binding_kind, local_kind, kind_found, declared_kind, kind_or_bound, kind_of, kind_at, as_base, base_at, base_term, base_pointer, as_pointer, as_term, as_field, field_pointer, as_pointer_field}
+use Rattle.plc_outparse.specs.Reach.{Reach, auxiliary_sort, binding_kind, local_kind, kind_found, declared_kind, kind_or_bound, kind_of, kind_at, as_base, base_at, base_term, base_pointer, as_pointer, as_term, as_field, as_pointer_field}
 use Rattle.plc_scope.specs.Limits.{stands_at}
 use Rattle.plc_lang.specs.Locals.{locals_or_none, locals_of}
-use Rattle.plc_outparse.specs.Meaning.{in_turn, me_means, term_means, sort_place, second_means, pointer_means, flag_means, literal_means, counted, literal_step, none_bound, if_free, bound_with, second_bound, bound_means, reach, clause_means, op_named, op_at, label_named, with_op, label_at, if_same_op, label_step, labels_mean, Parts, with_item, item_step, depth_means, outline_means}
+use Rattle.plc_outparse.specs.Meaning.{in_turn, me_means, term_means, sort_place, second_means, pointer_means, flag_means, literal_means, counted, literal_step, none_bound, if_free, bound_with, second_bound, bound_means, reach, clause_means, op_named, op_at, label_named, with_op, label_at, if_same_op, label_step, labels_mean, Parts, item_step, depth_means, outline_means}
 
 fitting : {A : Type 0} (P : A → Type 0) (at : ℕ) (o : Option A) → IfSome o P → Has P (if_fits at o)
 fitting P at (Some x) h = h
@@ -198,7 +197,7 @@ module _ (file : File) (r : Reach) (names : NamesOf r.scope file) where
   holds_nodes false e = cc
 
   sort_holds : (b : Base) (f : FieldId) (s : Sort) → IsNode w b → KindFits w (kinds.Field f s)
-      → IfSome (field_pointer b f s) (HoldsPointer w)
+      → IfSome (as_pointer_field b (kinds.Field f s)) (HoldsPointer w)
   sort_holds b f sorts.Node n h = (n, h.0, h.1, holds_nodes h.0.pointer h.2)
   sort_holds b f sorts.Number n h = tt
   sort_holds b f sorts.Thread n h = tt
@@ -418,7 +417,7 @@ module _ (file : File) (s : Scope) (names : NamesOf s file) where
         each_item = h.each_item;
       }
 
-  item_more : (st : Parts) (site : Site) (c : Clause) → PartsFit st → length st.1 < most limits.Items → SiteFits file c site → PartsFit (with_item st site c)
+  item_more : (st : Parts) (site : Site) (c : Clause) → PartsFit st → length st.1 < most limits.Items → SiteFits file c site → PartsFit (st.0, st.1 ++ record { site = site; clause = c } ∷ [])
   item_more st site c h less fits =
       let item : Item = record { site = site; clause = c } in
       let count = length-append st.1 (item ∷ []) in

@@ -27,8 +27,7 @@ use Rattle.plc_logic.specs.Marks.{literal_uses_marks, clause_uses_marks, item_us
 use Rattle.plc_outparse.specs.Reach.{Reach, base_at}
 use Rattle.plc_outparse.specs.Meaning.{in_turn, term_means, second_means, pointer_means, flag_means, literal_means}
 use Rattle.plc_outparse.specs.Meaning.{counted, literal_step, bound_means, reach, clause_means}
-use Rattle.plc_outparse.specs.Meaning.{op_at, labels_mean, Parts, with_item}
-use Rattle.plc_outparse.specs.Meaning.{item_step, depth_means, outline_means}
+use Rattle.plc_outparse.specs.Meaning.{op_at, labels_mean, Parts, item_step, depth_means, outline_means}
 
 -- ---- one more
 
@@ -138,7 +137,7 @@ invariant_adds st c uses is =
     ∙ or_swaps (list_any clause_uses_marks st.0) (list_any item_uses_marks st.1) uses
 
 item_adds : (st : Parts) (site : Site) (c : Clause) (uses : Bool) → clause_uses_marks c ≡ uses
-    → parts_speak (with_item st site c) ≡ (parts_speak st || uses)
+    → parts_speak (st.0, st.1 ++ record { site = site; clause = c } ∷ []) ≡ (parts_speak st || uses)
 item_adds st site c uses is =
     ap (λ b. list_any clause_uses_marks st.0 || b)
     (any_pushed item_uses_marks st.1 (record { site = site; clause = c }) uses is)

@@ -1,7 +1,6 @@
 -- What the meaning of an outline asks of what stands around it.
-use Rattle.std.specs.Prelude.{◌+◌, ◌≤◌, ℕ, length}
+use Rattle.std.specs.Prelude.{◌≤◌, length}
 use Rattle.plc_base.specs.Limits.{most}
-use Rattle.plc_base.specs.Names.{NameList}
 use Rattle.plc_base.specs.declared.limits.What1.TheVariants as limits
 use Rattle.plc_scope.specs.declared.scope.Scope.{Scope}
 use Rattle.plc_outparse.specs.Answers.{OpsFit}
@@ -15,7 +14,3 @@ HasFewLabels s = length s.labels ≤ most limits.Labels
 pub record IsWithinLimits (context : Context) : Type 0 where
   pub labels : HasFewLabels context.scope.now
   pub ops : OpsFit context.ops.now
-
--- so many more quantified names can be added
-pub record HasRoomForBound (bound : NameList) (count : ℕ) : Type 0 where
-  pub names : length bound.names + count ≤ bound.limit

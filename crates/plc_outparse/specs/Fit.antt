@@ -1,5 +1,4 @@
--- What a scope says of a file whose names it has, and the law that outlines which were read keep what is asked of
--- outlines.
+-- What a scope says of a file whose names it has, and the law that an outline which was read fits its file.
 use Rattle.std.specs.Prelude.{◌≡◌, ◌<◌, ℕ, Bool, true, false, List, [], ◌∷◌, length, slice_get, Some, Ok}
 use Rattle.plc_base.specs.declared.ids.FieldId.{FieldId}
 use Rattle.plc_lang.specs.declared.syntax.Field.{Field}

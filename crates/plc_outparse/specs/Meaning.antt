@@ -24,7 +24,6 @@ use Rattle.plc_logic.specs.declared.clause.Term.TheVariants as terms
 use Rattle.plc_logic.specs.declared.clause.Literal.{Literal}
 use Rattle.plc_logic.specs.declared.clause.Literal.TheVariants.{Same, Retired, Marked}
 use Rattle.plc_logic.specs.declared.clause.Clause.{Clause}
-use Rattle.plc_logic.specs.declared.clause.Site.{Site}
 use Rattle.plc_logic.specs.declared.clause.Site.TheVariants.{Over, At}
 use Rattle.plc_logic.specs.declared.clause.Item.{Item}
 use Rattle.plc_logic.specs.declared.clause.Outline.{Outline}
@@ -35,8 +34,6 @@ use Rattle.plc_outparse.specs.declared.kind.Kind.{Kind}
 use Rattle.plc_outparse.specs.Reach.{Reach, declared_kind, kind_at, base_at, as_term, as_field, as_pointer}
 use Rattle.plc_outparse.specs.Reach.{as_pointer_field}
 use Rattle.plc_lang.specs.Labels.{labels_by_op, op_of_label}
-
--- ---- parts
 
 -- parts in order, each added to what was made of those before
 abbrev pub in_turn : {S X : Type 0} → (S → X → Result S ParseFault) → S → List X → Result S ParseFault
@@ -54,18 +51,14 @@ wanted_of r alone after (PlaceOf n (Some f)) = do
   k ← kind_at r f
   if_fits f.at (after b k)
 
--- a name alone, or a field of a base, with its sort
-abbrev pub place_means : Reach → PlaceTree → Result (Term × Sort) ParseFault
-place_means r p = wanted_of r as_term as_field p
-
 -- the thread that is in the operation, which an invariant lacks
 abbrev pub me_means : Bool → ℕ → Result (Term × Sort) ParseFault
 me_means true at = Ok (terms.Me, sorts.Thread)
 me_means false at = Err (faults.WrongSort at)
 
--- any term that has a sort
+-- a term with its sort
 unfoldable pub term_means : Reach → TermTree → Result (Term × Sort) ParseFault
-term_means r (PlaceTerm p) = place_means r p
+term_means r (PlaceTerm p) = wanted_of r as_term as_field p
 term_means r (NullTerm at) = Ok (terms.Null, sorts.Node)
 term_means r (NumberTerm n) = Ok (terms.Number n.value, sorts.Number)
 term_means r (MeTerm at) = me_means r.in_operation at
@@ -201,15 +194,11 @@ labels_mean s by_op n names = do
   ls ← in_turn (label_step s by_op l.1) (l.0 ∷ []) names
   Ok (ls, l.1)
 
--- ---- items
+-- ---- items and the outline
 
 -- the invariants and the other items so far
 abbrev pub Parts : Type 0
 Parts = List Clause × List Item
-
--- one more item
-abbrev pub with_item : Parts → Site → Clause → Parts
-with_item st site c = (st.0, st.1 ++ record { site = site; clause = c } ∷ [])
 
 -- an item with those before it; an invariant names no local and no thread
 unfoldable pub item_step : Scope → List Op → List (List ℕ) → Parts → ItemTree → Result Parts ParseFault
@@ -219,13 +208,11 @@ item_step s ops by_op st (InvariantItem c) = within_limit (length st.0) limits.I
 item_step s ops by_op st (OverItem name c) = within_limit (length st.1) limits.Items (do
   o ← op_at s ops name
   k ← clause_means s (locals_of ops o) true c
-  Ok (with_item st (Over (record { 0 = o })) k))
+  Ok (st.0, st.1 ++ record { site = Over (record { 0 = o }); clause = k } ∷ []))
 item_step s ops by_op st (AtItem name names c) = within_limit (length st.1) limits.Items (do
   ls ← labels_mean s by_op name names
   k ← clause_means s (locals_of ops ls.1) true c
-  Ok (with_item st (At ls.0) k))
-
--- ---- the outline
+  Ok (st.0, st.1 ++ record { site = At ls.0; clause = k } ∷ []))
 
 -- 0 where it is left out
 abbrev pub depth_means : Option (Placed ℕ) → Result ℕ ParseFault

@@ -7,8 +7,7 @@ use Rattle.plc_syntax.specs.Trees.{Text, Placed}
 use Rattle.plc_scope.specs.declared.fault.ParseFault.{ParseFault}
 use Rattle.plc_scope.specs.declared.scope.Scope.{Scope}
 use Rattle.plc_scope.specs.declared.binding.Binding.{Binding}
-use Rattle.plc_scope.specs.declared.binding.Binding.TheVariants.{Taken, Shared, PointerField, DataField, Function}
-use Rattle.plc_scope.specs.declared.binding.Binding.TheVariants.{Auxiliary, Value, LocalOnly}
+use Rattle.plc_scope.specs.declared.binding.Binding.TheVariants as bindings
 use Rattle.plc_scope.specs.declared.binding.Found.{Found}
 use Rattle.plc_scope.specs.declared.binding.Found.TheVariants.{Local as LocalAt, OfFile}
 use Rattle.plc_scope.specs.Scope.{known, needed, found}
@@ -35,14 +34,14 @@ auxiliary_sort g false = sorts.Value g
 
 -- what a name of the file is; functions, operations, labels and the struct have no value
 abbrev pub binding_kind : Binding → Option Kind
-binding_kind Taken = Some kinds.NoValue
-binding_kind (Shared k) = Some (kinds.Node (bases.Shared k))
-binding_kind (PointerField f) = Some (kinds.Field f sorts.Node)
-binding_kind (DataField f) = Some (kinds.Field f sorts.Number)
-binding_kind (Function f p) = Some kinds.NoValue
-binding_kind (Auxiliary g t) = Some (kinds.Auxiliary g (auxiliary_sort g t))
-binding_kind (Value g v) = Some (kinds.Value g v)
-binding_kind LocalOnly = None
+binding_kind bindings.Taken = Some kinds.NoValue
+binding_kind (bindings.Shared k) = Some (kinds.Node (bases.Shared k))
+binding_kind (bindings.PointerField f) = Some (kinds.Field f sorts.Node)
+binding_kind (bindings.DataField f) = Some (kinds.Field f sorts.Number)
+binding_kind (bindings.Function f p) = Some kinds.NoValue
+binding_kind (bindings.Auxiliary g t) = Some (kinds.Auxiliary g (auxiliary_sort g t))
+binding_kind (bindings.Value g v) = Some (kinds.Value g v)
+binding_kind bindings.LocalOnly = None
 
 -- what a local is, by its number
 abbrev pub local_kind : ℕ → Bool → Kind

@@ -1,16 +1,14 @@
 // Clauses: their quantified names, which differ from all names in reach, and their literals.
-ghost use Rattle.std.specs.Prelude.{◌≡◌, ◌≤◌, Result, [], IfOk, length, map};
-ghost use Rattle.plc_base.specs.Names.{place_of};
-ghost use Rattle.plc_syntax.specs.Views.{placed_as, name_tree, name_or_none, literal_tree, bound_tree};
+ghost use Rattle.std.specs.Prelude.{◌≡◌, ◌+◌, ◌≤◌, ◌<◌, Result, [], IfOk, length, map};
+ghost use Rattle.plc_syntax.specs.Views.{placed_as, name_tree, literal_tree, bound_tree};
 ghost use Rattle.plc_logic.specs.declared.clause.Literal.{Literal};
 ghost use Rattle.plc_scope.specs.declared.fault.ParseFault.{ParseFault};
 ghost use Rattle.plc_scope.specs.Answers.{Gives};
-ghost use Rattle.plc_scope.specs.Scope.{most_locals, if_new, with_last};
+ghost use Rattle.plc_scope.specs.Scope.{most_locals};
 ghost use Rattle.plc_scope.specs.Limits.{stands_at};
 ghost use Rattle.plc_tree.specs.FormViews.{clause_tree};
-ghost use Rattle.plc_outparse.specs.Context.{HasRoomForBound};
-ghost use Rattle.plc_outparse.specs.Meaning.{counted, literal_step, in_turn, none_bound, bound_with, second_bound};
-ghost use Rattle.plc_outparse.specs.Meaning.{bound_means, clause_means};
+ghost use Rattle.plc_outparse.specs.Meaning.{counted, literal_step, in_turn, none_bound, bound_with, bound_means};
+ghost use Rattle.plc_outparse.specs.Meaning.{clause_means};
 ghost use Rattle.plc_outparse.specs.Views.{reach_of};
 
 use crate::reach::{Reach, declared_kind};
@@ -23,47 +21,21 @@ use plc_syntax::{Bound as BoundForm, Literal as LiteralForm, Name, Placed};
 use plc_tree::Clause as ClauseForm;
 use std::alloc::Global;
 
-/// A quantified name that differs from those before.
-fn add_bound(names: &mut Names, name: Name) -> Meaning<()>
-    requires { HasRoomForBound names.old 1 }
-    ensures read { Gives (λ _. names.new) result (if_new (place_of name.entry.value.now names.old.names)
-        name.entry.at (with_last names.old name.entry.value.now)) }
-    ensures room { IfOk result (λ _. HasRoomForBound names.new 0) }
-    ensures more { HasRoomForBound names.old 2 → IfOk result (λ _. HasRoomForBound names.new 1) }
-{
-    add_name(names, name)?;
-    Ok(())
-}
-
-/// A quantified name, which no name in reach has.
+/// A quantified name, which differs from those before and from all names in reach.
 #[tactic(auto, unfolding(crate::specs::Meaning::bound_with))]
 fn bind(scope: &Scope, locals: &[Local], bound: &mut Names, name: Name) -> Meaning<()>
     requires locals { length locals.now ≤ most_locals }
-    requires room { HasRoomForBound bound.old 1 }
+    requires room { length bound.old.names < bound.old.limit }
     ensures read { Gives (λ _. bound.new) result (bound_with scope.now locals.now bound.old (name_tree name.entry)) }
-    ensures more { HasRoomForBound bound.old 2 → IfOk result (λ _. HasRoomForBound bound.new 1) }
+    ensures more { length bound.old.names + 1 < bound.old.limit
+        → IfOk result (λ _. length bound.new.names < bound.new.limit) }
 {
     match declared_kind(scope, locals, name.value) {
         Some(_) => Err(ParseFault::Duplicate { at: name.at }),
-        None => add_bound(bound, name),
-    }
-}
-
-/// The second quantified name, if there is one.
-fn bind_second(
-    scope: &Scope,
-    locals: &[Local],
-    bound: &mut Names,
-    name: Option<Name>,
-) -> Meaning<()>
-    requires locals { length locals.now ≤ most_locals }
-    requires room { HasRoomForBound bound.old 1 }
-    ensures read { Gives (λ _. bound.new) result
-        (second_bound scope.now locals.now bound.old (name_or_none name.entry)) }
-{
-    match name {
-        Some(name) => bind(scope, locals, bound, name),
-        None => Ok(()),
+        None => {
+            add_name(bound, name)?;
+            Ok(())
+        }
     }
 }
 
@@ -78,7 +50,10 @@ fn bind_all(scope: &Scope, locals: &[Local], bound: &mut Names, form: BoundForm)
         BoundForm::None => Ok(()),
         BoundForm::All(first, second) => {
             bind(scope, locals, bound, first)?;
-            bind_second(scope, locals, bound, second)
+            match second {
+                Some(second) => bind(scope, locals, bound, second),
+                None => Ok(()),
+            }
         }
     }
 }
@@ -171,8 +146,6 @@ pub fn clause(
         bound: Names::new(alloc, MOST_BOUND),
         literals: Items::new(alloc),
     };
-    match add_all(scope, locals, in_operation, &mut clause, form) {
-        Ok(()) => Ok(clause),
-        Err(fault) => Err(fault),
-    }
+    add_all(scope, locals, in_operation, &mut clause, form)?;
+    Ok(clause)
 }

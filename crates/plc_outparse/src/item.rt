@@ -12,8 +12,9 @@ ghost use Rattle.plc_outparse.specs.Views.{parts_of};
 
 use crate::clause::clause;
 use crate::context::Context;
-use crate::site::{few_locals_of, labels, op_at};
+use crate::site::{labels, op_at};
 use plc_base::{Items, OpId, What1};
+use plc_lang::locals_of;
 use plc_logic::{Clause, Item, Site};
 use plc_scope::{Meaning, ParseFault, Scope};
 use plc_tree::{Clause as ClauseForm, Item as ItemForm};
@@ -46,7 +47,7 @@ fn clause_in(alloc: Global, context: &Context, op: usize, form: &ClauseForm) -> 
     ensures { Gives (λ c. c) result
         (clause_means context.now.scope.now (locals_of context.now.ops.now op) true (clause_tree form.now)) }
 {
-    clause(alloc, context.scope, few_locals_of(context, op), true, form)
+    clause(alloc, context.scope, locals_of(context.ops, op), true, form)
 }
 
 /// An item.

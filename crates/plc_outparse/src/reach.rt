@@ -4,7 +4,7 @@ ghost use Rattle.std.specs.Prelude.{◌≡◌, ◌≤◌, length};
 ghost use Rattle.plc_scope.specs.Answers.{Gives};
 ghost use Rattle.plc_syntax.specs.Views.{name_tree};
 ghost use Rattle.plc_scope.specs.Scope.{most_locals, known};
-ghost use Rattle.plc_outparse.specs.Reach.{auxiliary_sort, binding_kind, local_kind, declared_kind, kind_at, base_at};
+ghost use Rattle.plc_outparse.specs.Reach.{binding_kind, declared_kind, kind_at, base_at};
 ghost use Rattle.plc_outparse.specs.Views.{reach_of};
 
 use crate::kind::Kind;
@@ -26,17 +26,6 @@ pub struct Reach<'a> {
     pub bound: &'a Names,
 }
 
-/// The sort of what an auxiliary field holds.
-fn auxiliary_sort(g: u16, of_threads: bool) -> Sort
-    ensures { result ≡ auxiliary_sort g of_threads }
-{
-    if of_threads {
-        Sort::Thread
-    } else {
-        Sort::Value(g)
-    }
-}
-
 /// What a name of the file is to a clause.
 fn binding_kind(binding: Binding) -> Option<Kind>
     ensures { result ≡ binding_kind binding }
@@ -46,22 +35,10 @@ fn binding_kind(binding: Binding) -> Option<Kind>
         Binding::Shared(k) => Some(Kind::Node(Base::Shared(k))),
         Binding::PointerField(f) => Some(Kind::Field(f, Sort::Node)),
         Binding::DataField(f) => Some(Kind::Field(f, Sort::Number)),
-        Binding::Auxiliary(g, of_threads) => {
-            Some(Kind::Auxiliary(g, auxiliary_sort(g, of_threads)))
-        }
+        Binding::Auxiliary(g, true) => Some(Kind::Auxiliary(g, Sort::Thread)),
+        Binding::Auxiliary(g, false) => Some(Kind::Auxiliary(g, Sort::Value(g))),
         Binding::Value(g, v) => Some(Kind::Value(g, v)),
         Binding::LocalOnly => None,
-    }
-}
-
-/// What a local is to a clause.
-fn local_kind(number: u16, pointer: bool) -> Kind
-    ensures { result ≡ local_kind number pointer }
-{
-    if pointer {
-        Kind::Node(Base::Local(number))
-    } else {
-        Kind::Data(number)
     }
 }
 
@@ -72,7 +49,8 @@ pub fn declared_kind(scope: &Scope, locals: &[Local], name: &[u8]) -> Option<Kin
     ensures { result ≡ declared_kind scope.now locals.now name.now }
 {
     match scope.find(locals, name) {
-        Some(Found::Local(i, is_pointer)) => Some(local_kind(i, is_pointer)),
+        Some(Found::Local(i, true)) => Some(Kind::Node(Base::Local(i))),
+        Some(Found::Local(i, false)) => Some(Kind::Data(i)),
         Some(Found::OfFile(binding)) => binding_kind(binding),
         None => None,
     }

@@ -6,38 +6,29 @@ ghost use Rattle.plc_base.specs.declared.limits.What1.TheVariants as limits;
 ghost use Rattle.plc_base.specs.Names.{place_of};
 ghost use Rattle.plc_syntax.specs.Views.{name_tree};
 ghost use Rattle.plc_scope.specs.Answers.{Gives};
-ghost use Rattle.plc_scope.specs.Scope.{most_locals};
 ghost use Rattle.plc_outparse.specs.Context.{HasFewLabels, IsWithinLimits};
-ghost use Rattle.plc_lang.specs.Locals.{locals_of};
 ghost use Rattle.plc_outparse.specs.Meaning.{op_named, op_at, label_named, label_at, label_step, in_turn, labels_mean};
 
 use crate::context::Context;
 use crate::reach::known;
 use plc_base::Items;
-use plc_lang::{Local, Op, locals_of, op_of_label};
+use plc_lang::{Op, op_of_label};
 use plc_scope::{Meaning, ParseFault, Scope};
 use plc_syntax::Name;
 use std::alloc::Global;
-
-/// The operation with a name's number.
-fn op_with_name(ops: &[Op], name: u16) -> Option<u16>
-    requires { length ops.now ≤ most limits.Ops }
-    ensures { result ≡ op_named ops.now (Some name) }
-{
-    for (i, op) in ops.iter().enumerate() {
-        if op.name == name {
-            return Some(i as u16);
-        }
-    }
-    None
-}
 
 /// The operation with this name.
 fn op_named(scope: &Scope, ops: &[Op], name: &[u8]) -> Option<u16>
     requires { length ops.now ≤ most limits.Ops }
     ensures { result ≡ op_named ops.now (place_of name.now scope.now.names.names) }
 {
-    op_with_name(ops, scope.names.find(name)?)
+    let number = scope.names.find(name)?;
+    for (i, op) in ops.iter().enumerate() {
+        if op.name == number {
+            return Some(i as u16);
+        }
+    }
+    None
 }
 
 /// The operation that a name is; `Undeclared`, or `WrongSort` for another thing.
@@ -51,34 +42,18 @@ pub fn op_at(context: &Context, name: Name) -> Meaning<u16>
     op_named(context.scope, context.ops, name.value).ok_or(ParseFault::WrongSort { at: name.at })
 }
 
-/// The locals of an operation of a file, of which there are not too many.
-pub fn few_locals_of<'a>(context: &Context<'a>, op: usize) -> &'a [Local]
-    requires { IsWithinLimits context.now }
-    ensures locals { result.now ≡ locals_of context.now.ops.now op }
-    ensures few { length result.now ≤ most_locals }
-{
-    locals_of(context.ops, op)
-}
-
-/// The label with a name's number.
-fn label_with_name(labels: &[u16], name: u16) -> Option<u16>
-    requires { length labels.now ≤ most limits.Labels }
-    ensures { result ≡ label_named labels.now (Some name) }
-{
-    for (i, label) in labels.iter().enumerate() {
-        if *label == name {
-            return Some(i as u16);
-        }
-    }
-    None
-}
-
 /// The label with this name.
 fn label_named(scope: &Scope, name: &[u8]) -> Option<u16>
     requires { HasFewLabels scope.now }
     ensures { result ≡ label_named scope.now.labels (place_of name.now scope.now.names.names) }
 {
-    label_with_name(scope.labels.as_slice(), scope.names.find(name)?)
+    let number = scope.names.find(name)?;
+    for (i, label) in scope.labels.as_slice().iter().enumerate() {
+        if *label == number {
+            return Some(i as u16);
+        }
+    }
+    None
 }
 
 /// The label that a name is, and its operation. `Undeclared` and `WrongSort` where it is none.
@@ -90,13 +65,10 @@ fn label_at(context: &Context, name: Name) -> Meaning<(u16, usize)>
 {
     // A name without a declaration is a fault before one of another thing.
     let _kind = known(context.scope, &[], name)?;
-    let Some(label) = label_named(context.scope, name.value) else {
-        return Err(ParseFault::WrongSort { at: name.at });
-    };
-    match op_of_label(context.by_op, label) {
-        Some(op) => Ok((label, op)),
-        None => Err(ParseFault::WrongSort { at: name.at }),
-    }
+    let label = label_named(context.scope, name.value);
+    let label = label.ok_or(ParseFault::WrongSort { at: name.at })?;
+    let op = op_of_label(context.by_op, label).ok_or(ParseFault::WrongSort { at: name.at })?;
+    Ok((label, op))
 }
 
 /// A further label. `WrongSort` where it stands in another operation.
@@ -141,8 +113,6 @@ pub fn labels(
     let (first, op) = label_at(context, name)?;
     let mut labels = Items::new(alloc);
     labels.push(first)?;
-    match add_labels(context, op, &mut labels, others) {
-        Ok(()) => Ok((labels, op)),
-        Err(fault) => Err(fault),
-    }
+    add_labels(context, op, &mut labels, others)?;
+    Ok((labels, op))
 }

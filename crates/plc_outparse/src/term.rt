@@ -4,9 +4,9 @@ ghost use Rattle.std.specs.Prelude.{◌≡◌, ◌≤◌, length};
 ghost use Rattle.plc_syntax.specs.Views.{place_tree, term_tree, flag_tree, literal_tree};
 ghost use Rattle.plc_scope.specs.Answers.{Gives};
 ghost use Rattle.plc_scope.specs.Scope.{most_locals};
-ghost use Rattle.plc_outparse.specs.Meaning.{place_means, me_means, term_means, sort_place, second_means};
+ghost use Rattle.plc_outparse.specs.Meaning.{wanted_of, term_means, sort_place, second_means};
 ghost use Rattle.plc_outparse.specs.Meaning.{pointer_means, flag_means, literal_means};
-ghost use Rattle.plc_outparse.specs.Reach.{base_term, as_term, as_field, as_pointer, as_pointer_field};
+ghost use Rattle.plc_outparse.specs.Reach.{as_term, as_field, as_pointer, as_pointer_field};
 ghost use Rattle.plc_outparse.specs.Views.{reach_of};
 
 use crate::kind::Kind;
@@ -15,23 +15,14 @@ use plc_logic::{Base, Literal, Sort, Term};
 use plc_scope::{Meaning, ParseFault};
 use plc_syntax::{Flag as FlagForm, Literal as LiteralForm, Place, Term as TermForm};
 
-/// The term that a base alone is.
-fn base_term(base: Base) -> Term
-    ensures { result ≡ base_term base }
-{
-    match base {
-        Base::Shared(i) => Term::Shared(i),
-        Base::Local(i) => Term::Local(i),
-        Base::Bound(i) => Term::Bound(i),
-    }
-}
-
 /// The term that a name alone is.
 fn as_term(kind: Kind) -> Option<(Term, Sort)>
     ensures { result ≡ as_term kind }
 {
     match kind {
-        Kind::Node(base) => Some((base_term(base), Sort::Node)),
+        Kind::Node(Base::Shared(i)) => Some((Term::Shared(i), Sort::Node)),
+        Kind::Node(Base::Local(i)) => Some((Term::Local(i), Sort::Node)),
+        Kind::Node(Base::Bound(i)) => Some((Term::Bound(i), Sort::Node)),
         Kind::Data(i) => Some((Term::Local(i), Sort::Number)),
         Kind::Value(g, v) => Some((Term::Value { g, v }, Sort::Value(g))),
         Kind::Field(..) | Kind::Auxiliary(..) | Kind::NoValue => None,
@@ -52,35 +43,20 @@ fn as_field(base: Base, kind: Kind) -> Option<(Term, Sort)>
 /// A name, or a field of one, as a term with its sort.
 fn place(reach: &Reach, place: Place) -> Meaning<(Term, Sort)>
     requires { length reach.now.locals.now ≤ most_locals }
-    ensures { Gives (λ r. (r.0, r.1)) result (place_means (reach_of reach.now) (place_tree place.entry)) }
+    ensures { Gives (λ r. (r.0, r.1)) result
+        (wanted_of (reach_of reach.now) as_term as_field (place_tree place.entry)) }
 {
+    let name = place.name;
     match place.field {
-        None => match as_term(kind_at(reach, place.name)?) {
-            Some(term) => Ok(term),
-            None => Err(ParseFault::WrongSort { at: place.name.at }),
-        },
+        None => as_term(kind_at(reach, name)?).ok_or(ParseFault::WrongSort { at: name.at }),
         Some(field) => {
-            let base = base_at(reach, place.name)?;
-            match as_field(base, kind_at(reach, field)?) {
-                Some(term) => Ok(term),
-                None => Err(ParseFault::WrongSort { at: field.at }),
-            }
+            let base = base_at(reach, name)?;
+            as_field(base, kind_at(reach, field)?).ok_or(ParseFault::WrongSort { at: field.at })
         }
     }
 }
 
-/// The thread that is in the operation, which an invariant lacks.
-fn me(in_operation: bool, at: u32) -> Meaning<(Term, Sort)>
-    ensures { Gives (λ r. (r.0, r.1)) result (me_means in_operation at) }
-{
-    if in_operation {
-        Ok((Term::Me, Sort::Thread))
-    } else {
-        Err(ParseFault::WrongSort { at })
-    }
-}
-
-/// A term with its sort.
+/// A term with its sort. An invariant has no thread that is in an operation.
 #[tactic(auto, unfolding(crate::specs::Meaning::term_means))]
 fn term(reach: &Reach, form: TermForm) -> Meaning<(Term, Sort)>
     requires { length reach.now.locals.now ≤ most_locals }
@@ -90,7 +66,8 @@ fn term(reach: &Reach, form: TermForm) -> Meaning<(Term, Sort)>
         TermForm::Place(named) => place(reach, named),
         TermForm::Null(_) => Ok((Term::Null, Sort::Node)),
         TermForm::Number(n) => Ok((Term::Number(n.value), Sort::Number)),
-        TermForm::Me(at) => me(reach.in_operation, at),
+        TermForm::Me(_) if reach.in_operation => Ok((Term::Me, Sort::Thread)),
+        TermForm::Me(at) => Err(ParseFault::WrongSort { at }),
         TermForm::None(_) => Ok((Term::Nobody, Sort::Thread)),
     }
 }
@@ -101,12 +78,7 @@ fn sort_place(form: TermForm) -> u32
 {
     match form {
         TermForm::Place(Place { name, field: None }) => name.at,
-        TermForm::Place(
-            Place {
-                field: Some(field),
-                ..
-            },
-        ) => field.at,
+        TermForm::Place(Place { field: Some(f), .. }) => f.at,
         TermForm::Number(n) => n.at,
         TermForm::Null(at) | TermForm::Me(at) | TermForm::None(at) => at,
     }
@@ -120,12 +92,10 @@ fn second(reach: &Reach, sort: Sort, form: TermForm) -> Meaning<Term>
 {
     let (second, found) = term(reach, form)?;
     if found == sort {
-        Ok(second)
-    } else {
-        Err(ParseFault::WrongSort {
-            at: sort_place(form),
-        })
+        return Ok(second);
     }
+    let at = sort_place(form);
+    Err(ParseFault::WrongSort { at })
 }
 
 /// The place of a pointer that a name alone is. A quantified name is a node, and no place of one.
@@ -154,17 +124,13 @@ fn pointer(reach: &Reach, place: Place) -> Meaning<Term>
     requires { length reach.now.locals.now ≤ most_locals }
     ensures { Gives (λ t. t) result (pointer_means (reach_of reach.now) (place_tree place.entry)) }
 {
+    let name = place.name;
     match place.field {
-        None => match as_pointer(kind_at(reach, place.name)?) {
-            Some(term) => Ok(term),
-            None => Err(ParseFault::WrongSort { at: place.name.at }),
-        },
+        None => as_pointer(kind_at(reach, name)?).ok_or(ParseFault::WrongSort { at: name.at }),
         Some(field) => {
-            let base = base_at(reach, place.name)?;
-            match as_pointer_field(base, kind_at(reach, field)?) {
-                Some(term) => Ok(term),
-                None => Err(ParseFault::WrongSort { at: field.at }),
-            }
+            let base = base_at(reach, name)?;
+            let kind = kind_at(reach, field)?;
+            as_pointer_field(base, kind).ok_or(ParseFault::WrongSort { at: field.at })
         }
     }
 }

@@ -1,5 +1,6 @@
 -- A file with a meaning passes no limit, and names what is there.
-use Rattle.std.proofs.Common.{◌≡◌, ◌==◌, ℕ, ◌+◌, ◌≤◌, ◌<◌, Bool, true, false, ◌&&◌, ◌||◌, Option, Some, None, Result, Ok, Err, List, [], ◌∷◌, ◌++◌, length, slice_get, refl, ◌∙◌, ap, arith}
+use Rattle.std.proofs.Common.{◌≡◌, ◌==◌, ℕ, ◌+◌, ◌≤◌, ◌<◌, Bool, true, false, ◌&&◌, ◌||◌, Option, Some, None, Result}
+use Rattle.std.proofs.Common.{Ok, Err, List, [], ◌∷◌, ◌++◌, length, slice_get, refl, ◌∙◌, ap, arith}
 use Rattle.std.proofs.lemmas.Bool.{eqb-false}
 use Rattle.std.proofs.lemmas.List.{length-append}
 use Rattle.plc_base.specs.Limits.{most}
@@ -11,20 +12,28 @@ use Rattle.plc_lang.specs.declared.syntax.Primitive.{Primitive}
 use Rattle.plc_lang.specs.declared.syntax.Ghost.{Ghost}
 use Rattle.plc_lang.specs.declared.syntax.Local.{Local}
 use Rattle.plc_lang.specs.Allocation.{is_new}
-use Rattle.plc_syntax.specs.Trees.{Text, Placed, FieldTree, PointerField, DataField, FunctionTree, Declares, GhostTree, Auxiliary, OneOf, OfThreads, InitialTree, BlockTree, OpTree, Operates, FileTree}
+use Rattle.plc_syntax.specs.Trees.{Text, Placed, FieldTree, PointerField, DataField, FunctionTree, Declares, GhostTree}
+use Rattle.plc_syntax.specs.Trees.{Auxiliary, OneOf, OfThreads, InitialTree, BlockTree, OpTree, Operates, FileTree}
 use Rattle.plc_scope.specs.declared.fault.ParseFault.{ParseFault}
 use Rattle.plc_scope.specs.declared.fault.ParseFault.TheVariants as faults
 use Rattle.plc_scope.specs.declared.scope.Scope.{Scope}
 use Rattle.plc_scope.specs.declared.binding.Binding.{Binding}
 use Rattle.plc_scope.specs.declared.binding.Binding.TheVariants.{Taken, Value}
-use Rattle.plc_scope.specs.Scope.{◌>>=◌, most_locals, if_new, first_scope, with_name, with_label, declared, declared_label, has_local, may_name_local, local_number, with_local, declared_local, declared_parameter}
+use Rattle.plc_scope.specs.Scope.{◌>>=◌, most_locals, if_new, first_scope, with_name, with_label, declared}
+use Rattle.plc_scope.specs.Scope.{declared_label, has_local, may_name_local, local_number, with_local, declared_local}
+use Rattle.plc_scope.specs.Scope.{declared_parameter}
 use Rattle.plc_scope.specs.Primitives.{primitive_means, initial_means, condition_means, call_means}
 use Rattle.plc_parse.specs.declared.unit.Unit.{Unit as FileUnit}
 use Rattle.plc_scope.specs.Limits.{stands_at}
-use Rattle.plc_parse.specs.Meaning.{counted, count_of, before, allocates, forms_mean, atomic_means, initials_mean, one_or_skip, label_means, statements_mean, field_means, shared_means, function_means, value_means, values_mean, ghost_means, listed, watch_means, init_means, parameters_mean, local_means, locals_mean, op_means, placed_op_means, line_at, outlined_means, file_means}
+use Rattle.plc_outparse.specs.Meaning.{in_turn}
+use Rattle.plc_parse.specs.Meaning.{counted, count_of, before, allocates, forms_mean, atomic_means, one_or_skip}
+use Rattle.plc_parse.specs.Meaning.{label_means, statements_mean, field_means, shared_means, function_means}
+use Rattle.plc_parse.specs.Meaning.{value_means, ghost_means, listed, watch_means, init_means, local_means, op_means}
+use Rattle.plc_parse.specs.Meaning.{placed_op_means, line_at, outlined_means, file_means}
 use Rattle.plc_scope.proofs.Holds.{Has, has_along, weaker, next, any, unless, if_ok, both_err, below}
-use Rattle.plc_parse.proofs.Holds.{OneHas, EachHas, one_name, each_has, Free}
-use Rattle.plc_parse.proofs.Upward.{Facts, GoesUp, PartsHave, PrimitiveHas, AtomicHas, CallHas, LabelRead, Read, all_have, statements_read}
+use Rattle.plc_parse.proofs.Holds.{OneHas, EachHas, one_name, each_has, turns, Free}
+use Rattle.plc_parse.proofs.Upward.{Facts, GoesUp, PartsHave, PrimitiveHas, AtomicHas, CallHas, LabelRead, Read}
+use Rattle.plc_parse.proofs.Upward.{all_have, statements_read}
 
 -- ---- between declarations
 
@@ -72,13 +81,13 @@ record ValuesFit (n : ℕ) (r : List ℕ × Scope) : Type 0 where
   count : n + length r.0 ≤ most limits.Values
   between : Between r.1
 
-value_fits : (s : Scope) (g n : ℕ) (name : Placed Text) → n ≤ most limits.Values → Between s → Has (ValueFits n) (value_means s g n name)
+value_fits : (s : Scope) (g n : ℕ) (name : Placed Text) → n ≤ most limits.Values → Between s → Has (ValueFits n) (value_means g s n name)
 value_fits s g n name le h = next Between (ValueFits n) (declared s name (Value g n)) _ (declared_between s name (Value g n) h) (λ t k. below (ValueFits n) n (most limits.Values) _ _ le (λ less. record { before = less; between = k }))
 
-values_fit : (s : Scope) (g n : ℕ) (names : List (Placed Text)) → n ≤ most limits.Values → Between s → Has (ValuesFit n) (values_mean s g n names)
+values_fit : (s : Scope) (g n : ℕ) (names : List (Placed Text)) → n ≤ most limits.Values → Between s → Has (ValuesFit n) (listed (value_means g) s n names)
 values_fit s g n [] le h = record { count = omega arith; between = h }
-values_fit s g n (name ∷ names) le h = next (ValueFits n) (ValuesFit n) (value_means s g n name) _ (value_fits s g n name le h) (λ first f.
-    next (ValuesFit (n + 1)) (ValuesFit n) (values_mean first.1 g (n + 1) names) _ (values_fit first.1 g (n + 1) names (omega (arith, f.before)) f.between) (λ others k.
+values_fit s g n (name ∷ names) le h = next (ValueFits n) (ValuesFit n) (value_means g s n name) _ (value_fits s g n name le h) (λ first f.
+    next (ValuesFit (n + 1)) (ValuesFit n) (listed (value_means g) first.1 (n + 1) names) _ (values_fit first.1 g (n + 1) names (omega (arith, f.before)) f.between) (λ others k.
     record { count = omega (arith, k.count); between = k.between }))
 
 abbrev GhostFits : Ghost → Type 0
@@ -88,9 +97,8 @@ ghost_fits : (s : Scope) (n : ℕ) (g : GhostTree) → Room limits.Ghosts n s �
 ghost_fits s n (Auxiliary name OfThreads) h = one_name GhostFits (Room limits.Ghosts) n limits.Ghosts s name _ _ (omega arith) (room_for limits.Ghosts n s name _ h)
 ghost_fits s n (Auxiliary name (OneOf v vs)) h = unless (OneHas GhostFits (Room limits.Ghosts) n) (n == most limits.Ghosts) _ _ (λ few.
     next (Room limits.Ghosts (n + 1)) (OneHas GhostFits (Room limits.Ghosts) n) (declared s name _) _ (room_for limits.Ghosts n s name _ h few) (λ t k.
-    next (ValueFits 0) (OneHas GhostFits (Room limits.Ghosts) n) (value_means t n 0 v) _ (value_fits t n 0 v (omega arith) k.between) (λ first f.
-    next (ValuesFit 1) (OneHas GhostFits (Room limits.Ghosts) n) (values_mean first.1 n 1 vs) _ (values_fit first.1 n 1 vs (omega arith) f.between) (λ others m.
-    record { is = omega (arith, m.count); state = record { count = k.count; between = m.between } }))))
+    next (ValuesFit 0) (OneHas GhostFits (Room limits.Ghosts) n) (listed (value_means n) t 0 (v ∷ vs)) _ (values_fit t n 0 (v ∷ vs) (omega arith) k.between) (λ values m.
+    record { is = omega (arith, m.count); state = record { count = k.count; between = m.between } })))
 
 -- ---- primitives of one step
 
@@ -195,17 +203,17 @@ parameter_few s name h =
 few_then : (s t u : Scope) → Few s t → Few t u → Few s u
 few_then s t u f g = record { locals = g.locals; labels = g.labels ∙ f.labels }
 
-parameters_few : (s t : Scope) (names : List (Placed Text)) → Few s t → Has (Few s) (parameters_mean t names)
-parameters_few s t [] h = h
-parameters_few s t (n ∷ ns) h = next (Few t) (Few s) (declared_parameter t n) _ (parameter_few t n h.locals) (λ u few. parameters_few s u ns (few_then s t u h few))
+parameters_few : (s t : Scope) (names : List (Placed Text)) → Few s t → Has (Few s) (in_turn declared_parameter t names)
+parameters_few s = turns (Few s) declared_parameter (λ t n h.
+    weaker (Few t) (Few s) (declared_parameter t n) (λ u few. few_then s t u h few) (parameter_few t n h.locals))
 
 pub one_local_few : (s : Scope) (l : FieldTree) → length s.locals ≤ most_locals → Has (Few s) (local_means s l)
 one_local_few s (PointerField name) h = local_few s name true h
 one_local_few s (DataField name) h = local_few s name false h
 
-locals_few : (s t : Scope) (ls : List FieldTree) → Few s t → Has (Few s) (locals_mean t ls)
-locals_few s t [] h = h
-locals_few s t (l ∷ ls) h = next (Few t) (Few s) (local_means t l) _ (one_local_few t l h.locals) (λ u few. locals_few s u ls (few_then s t u h few))
+locals_few : (s t : Scope) (ls : List FieldTree) → Few s t → Has (Few s) (in_turn local_means t ls)
+locals_few s = turns (Few s) local_means (λ t l h.
+    weaker (Few t) (Few s) (local_means t l) (λ u few. few_then s t u h few) (one_local_few t l h.locals))
 
 -- ---- operations
 
@@ -217,8 +225,8 @@ op_fits lines s n o h = on_line (line_at lines o.at) o.value
         unless (OneHas OpFits (Room limits.Ops) n) (n == most limits.Ops) _ _ (λ few.
         next (Room limits.Ops (n + 1)) (OneHas OpFits (Room limits.Ops) n) (declared s name Taken) _ (room_for limits.Ops n s name Taken h few) (λ t k.
         let count : length t.locals ≡ 0 = ap length k.between.locals in
-        next (Few t) (OneHas OpFits (Room limits.Ops) n) (parameters_mean t ps) _ (parameters_few t t ps (record { locals = omega arith; labels = refl })) (λ p kept.
-        next (Few t) (OneHas OpFits (Room limits.Ops) n) (locals_mean p ls) _ (locals_few t p ls kept) (λ l fewer.
+        next (Few t) (OneHas OpFits (Room limits.Ops) n) (in_turn declared_parameter t ps) _ (parameters_few t t ps (record { locals = omega arith; labels = refl })) (λ p kept.
+        next (Few t) (OneHas OpFits (Room limits.Ops) n) (in_turn local_means p ls) _ (locals_few t p ls kept) (λ l fewer.
         let same : length l.labels ≡ length t.labels = ap length fewer.labels in
         next (Read FewLabels StatementsFit) (OneHas OpFits (Room limits.Ops) n) (statements_mean lines l false b) _ (statements_fit FewLabels label_fits lines l false b (omega (arith, k.between.labels))) (λ body f.
         record { is = record { locals = fewer.locals; body = f.is }; state = record { count = k.count; between = record { locals = refl; labels = f.state } } })))))

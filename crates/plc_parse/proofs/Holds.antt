@@ -1,5 +1,6 @@
 -- What holds of declarations that are listed.
-use Rattle.std.proofs.Common.{◌≡◌, ◌==◌, ℕ, zero, suc, ◌+◌, false, Some, Result, Ok, List, [], ◌∷◌, length, ◌++◌, slice_get, subst, sym, append_assoc, append-nil, arith}
+use Rattle.std.proofs.Common.{◌≡◌, ◌==◌, ℕ, zero, suc, ◌+◌, false, Some, Result, Ok, List, [], ◌∷◌, length, ◌++◌}
+use Rattle.std.proofs.Common.{slice_get, subst, sym, append_assoc, append-nil, arith}
 use Rattle.plc_base.specs.Limits.{most}
 use Rattle.plc_base.specs.declared.limits.What1.{What1}
 use Rattle.plc_syntax.specs.Trees.{Text, Placed}
@@ -9,7 +10,15 @@ use Rattle.plc_scope.specs.declared.binding.Binding.{Binding}
 use Rattle.plc_scope.specs.Scope.{◌>>=◌, declared}
 use Rattle.plc_scope.proofs.Holds.{Has, next, unless}
 use Rattle.plc_scope.specs.Limits.{within_limit}
+use Rattle.plc_outparse.specs.Meaning.{in_turn}
 use Rattle.plc_parse.specs.Meaning.{listed}
+
+-- P holds of what parts in order make, where each part keeps it
+pub turns : {S X : Type 0} (P : S → Type 0) (step : S → X → Result S ParseFault)
+    → ((s : S) (x : X) → P s → Has P (step s x)) → (s : S) (xs : List X) → P s → Has P (in_turn step s xs)
+turns P step keeps s [] h = h
+turns P step keeps s (x ∷ xs) h =
+    next P P (step s x) _ (keeps s x h) (λ t k. turns P step keeps t xs k)
 
 -- P holds of each, and the state of the scope goes by how many were declared
 

@@ -1,7 +1,7 @@
 -- The loops over statements, blocks, declarations, values and primitives, each as parts that are made one after the
 -- other.
-use Rattle.std.proofs.Common.{◌≡◌, ◌∙◌, ◌+◌, ◌||◌, ℕ, Bool, List, [], ◌∷◌, ◌++◌, map, length, Option, Some, None, Result, Ok}
-use Rattle.std.proofs.Common.{Err, refl, sym, ap, append_assoc, arith}
+use Rattle.std.proofs.Common.{◌≡◌, ◌∙◌, ◌+◌, ◌||◌, ℕ, Bool, List, [], ◌∷◌, ◌++◌, map, length, Option, Some, None}
+use Rattle.std.proofs.Common.{Result, Ok, Err, refl, sym, ap, append_assoc, arith}
 use Rattle.std.proofs.lemmas.List.{append-nil, length-append}
 use Rattle.plc_syntax.specs.Views.{placed_as, field_tree}
 use Rattle.plc_syntax.specs.declared.form.Placed.{Placed}
@@ -12,17 +12,16 @@ use Rattle.plc_lang.specs.Statements.{Statement, Statements, Empty, Then, Blocks
 use Rattle.plc_lang.specs.Views.{statement_of, block_of, blocks_of}
 use Rattle.plc_scope.specs.declared.fault.ParseFault.{ParseFault}
 use Rattle.plc_scope.specs.declared.scope.Scope.{Scope}
-use Rattle.plc_scope.specs.Scope.{◌>>=◌}
+use Rattle.plc_scope.specs.Scope.{◌>>=◌, declared_parameter}
 use Rattle.plc_scope.proofs.Sequence.{bind_joins}
 use Rattle.plc_scope.proofs.Turns.{ahead}
 use Rattle.plc_syntax.specs.Trees.{Text, Placed as PlacedTree, BlockTree}
 use Rattle.plc_tree.specs.declared.tree.Stmt.{Stmt}
 use Rattle.plc_tree.specs.Views.{statement_tree, block_tree, ors_tree}
 use Rattle.plc_parse.specs.Meaning.{counted, count_of, allocates, before, forms_mean, line_at, statement_means}
-use Rattle.plc_parse.specs.Meaning.{statements_mean, or_means, value_means, values_mean, listed, local_means}
-use Rattle.plc_parse.specs.Meaning.{parameters_mean, locals_mean}
+use Rattle.plc_parse.specs.Meaning.{statements_mean, or_means, listed, local_means}
+use Rattle.plc_outparse.specs.Meaning.{in_turn}
 use Rattle.plc_parse.specs.Views.{with_form}
-use Rattle.plc_scope.specs.Scope.{declared_parameter}
 
 -- ---- the lines of a block
 
@@ -145,17 +144,6 @@ module _ {F X Y : Type 0} (means : Scope → ℕ → X → Result (Y × Scope) P
       ≡ (one_listed s x >>= λ f. listed_from f.1 xs >>= λ o. Ok (one_declared f.0 o))
   listed_go s x xs = sym (bind_joins (means s.0 s.1 (tree x)) _ _)
 
-module _ {N : Type 0} (g : ℕ) (name : N → PlacedTree Text) where
-  abbrev pub values_from : Before → List N → Result (Declared ℕ) ParseFault
-  values_from s ns = values_mean s.0 g s.1 (map name ns)
-
-  abbrev pub one_value : Before → N → Result (ℕ × Before) ParseFault
-  one_value s n = value_means s.0 g s.1 (name n) >>= λ f. Ok (f.0, (f.1, s.1 + 1))
-
-  pub values_go : (s : Before) (n : N) (ns : List N) → values_from s (n ∷ ns)
-      ≡ (one_value s n >>= λ f. values_from f.1 ns >>= λ o. Ok (one_declared f.0 o))
-  values_go s n ns = sym (bind_joins (value_means s.0 g s.1 (name n)) _ _)
-
 -- one more at the end
 pub one_more : {Y : Type 0} (ys zs : List Y) (y : Y) → zs ≡ ys ++ y ∷ [] → (o : Declared Y)
     → all_declared zs o ≡ all_declared ys (one_declared y o)
@@ -168,7 +156,7 @@ all_of ys s = ap (λ ws. (ws, s)) (append-nil ys)
 
 module _ {N : Type 0} (name : N → PlacedTree Text) where
   abbrev pub parameters_from : Scope → List N → Result Scope ParseFault
-  parameters_from s ns = parameters_mean s (map name ns)
+  parameters_from s ns = in_turn declared_parameter s (map name ns)
 
   abbrev pub one_parameter : Scope → N → Result Scope ParseFault
   one_parameter s n = declared_parameter s (name n)
@@ -178,7 +166,7 @@ module _ {N : Type 0} (name : N → PlacedTree Text) where
   parameters_go s n ns = refl
 
 abbrev pub locals_from : Scope → List Declaration → Result Scope ParseFault
-locals_from s ls = locals_mean s (map field_tree ls)
+locals_from s ls = in_turn local_means s (map field_tree ls)
 
 abbrev pub one_local : Scope → Declaration → Result Scope ParseFault
 one_local s l = local_means s (field_tree l)

@@ -31,7 +31,7 @@ use Rattle.plc_syntax.specs.Trees.{OpTree, Operates, OutlineTree, FileTree}
 use Rattle.plc_syntax.specs.Marks.{value_uses_marks, set_uses_marks, initial_uses_marks, init_uses_marks}
 use Rattle.plc_syntax.specs.Marks.{test_uses_marks, condition_tree_uses_marks, primitive_uses_marks}
 use Rattle.plc_syntax.specs.Marks.{statement_tree_uses_marks, block_uses_marks, else_uses_marks, or_uses_marks}
-use Rattle.plc_syntax.specs.Marks.{op_uses_marks, outline_tree_uses_marks, outlined_uses_marks, file_tree_uses_marks}
+use Rattle.plc_syntax.specs.Marks.{op_uses_marks, outlined_uses_marks, file_tree_uses_marks}
 use Rattle.plc_syntax.proofs.Marked.{marks_spelled}
 use Rattle.plc_scope.specs.declared.fault.ParseFault.{ParseFault}
 use Rattle.plc_scope.specs.declared.scope.Scope.{Scope}
@@ -41,8 +41,8 @@ use Rattle.plc_scope.specs.declared.binding.Role.TheVariants.{PointerVariable as
 use Rattle.plc_scope.specs.declared.binding.Role.TheVariants.{DataLocal as data_local, PointerField as pointer_field}
 use Rattle.plc_scope.specs.declared.binding.Role.TheVariants.{DataField as data_field}
 use Rattle.plc_scope.specs.Limits.{stands_at}
-use Rattle.plc_scope.specs.Scope.{first_scope, role_at, declared, role_as, as_pointer, as_pointer_local, as_data}
-use Rattle.plc_scope.specs.Scope.{as_pointer_field, as_data_field, as_auxiliary}
+use Rattle.plc_scope.specs.Scope.{first_scope, role_at, declared, declared_parameter, role_as, as_pointer}
+use Rattle.plc_scope.specs.Scope.{as_pointer_local, as_data, as_pointer_field, as_data_field, as_auxiliary}
 use Rattle.plc_scope.specs.Primitives.{with_number, pointer_value, data_value, value_into, pointer_atom, atom_into}
 use Rattle.plc_scope.specs.Primitives.{set_means, refresh_from, refresh_name_means, refresh_means, ghost_value_means}
 use Rattle.plc_scope.specs.Primitives.{ghost_set_means, pointer_equality, pointer_test, relation, test_of, test_means}
@@ -52,11 +52,12 @@ use Rattle.plc_scope.proofs.Holds.{Has, has_along, next, any, unless, both_err}
 use Rattle.plc_parse.specs.declared.unit.Unit.{Unit as FileUnit}
 use Rattle.plc_outparse.proofs.Marked.{OutlineSpeaks, outline_marked}
 use Rattle.plc_parse.specs.Marks.{unit_uses_marks, UnitsUseTheirMarks}
-use Rattle.plc_parse.specs.Meaning.{counted, count_of, allocates, before, forms_mean, atomic_means, initials_mean}
+use Rattle.plc_outparse.specs.Meaning.{in_turn}
+use Rattle.plc_parse.specs.Meaning.{counted, count_of, allocates, before, forms_mean, atomic_means, local_means}
 use Rattle.plc_parse.specs.Meaning.{one_or_skip, label_means, during_means, statement_means, statements_mean}
 use Rattle.plc_parse.specs.Meaning.{else_means, or_means, listed, field_means, shared_means, function_means}
-use Rattle.plc_parse.specs.Meaning.{ghost_means, watch_means, init_means, parameters_mean, locals_mean, op_means}
-use Rattle.plc_parse.specs.Meaning.{placed_op_means, line_at, outlined_means, file_means}
+use Rattle.plc_parse.specs.Meaning.{ghost_means, watch_means, init_means, op_means, placed_op_means, line_at}
+use Rattle.plc_parse.specs.Meaning.{outlined_means, file_means}
 use Rattle.plc_parse.specs.Units.{lines_of}
 
 -- ---- primitives and conditions
@@ -350,8 +351,8 @@ module _ (lines : List ℕ) where
   op_marked line s n (Operates name ps ls b) = let uses : Bool = block_uses_marks b in
       unless (OpSpeaks uses) (n == most limits.Ops) _ _ (λ few.
       any (OpSpeaks uses) (declared s name Taken) _ (λ t.
-      any (OpSpeaks uses) (parameters_mean t ps) _ (λ p.
-      any (OpSpeaks uses) (locals_mean p ls) _ (λ l.
+      any (OpSpeaks uses) (in_turn declared_parameter t ps) _ (λ p.
+      any (OpSpeaks uses) (in_turn local_means p ls) _ (λ l.
       next (ManySpeak uses) (OpSpeaks uses) (statements_mean lines l false b) _ (statements_marked l false b)
       (λ body a. a)))))
 

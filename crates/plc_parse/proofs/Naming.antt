@@ -47,13 +47,13 @@ use Rattle.plc_scope.specs.Primitives.{pointer_or_null, condition_means, primiti
 use Rattle.plc_scope.specs.Primitives.{argument_means, call_means}
 use Rattle.plc_parse.specs.declared.unit.Unit.{Unit as FileUnit}
 use Rattle.plc_scope.specs.Limits.{stands_at}
-use Rattle.plc_parse.specs.Meaning.{counted, before, allocates, count_of, forms_mean, atomic_means, initials_mean}
-use Rattle.plc_parse.specs.Meaning.{one_or_skip, label_means, statements_mean, field_means, shared_means}
-use Rattle.plc_parse.specs.Meaning.{function_means, value_means, values_mean, ghost_means, listed, watch_means}
-use Rattle.plc_parse.specs.Meaning.{init_means, parameters_mean, local_means, locals_mean, op_means, placed_op_means}
-use Rattle.plc_parse.specs.Meaning.{line_at, outlined_means, file_means}
+use Rattle.plc_outparse.specs.Meaning.{in_turn}
+use Rattle.plc_parse.specs.Meaning.{counted, before, allocates, count_of, forms_mean, atomic_means, one_or_skip}
+use Rattle.plc_parse.specs.Meaning.{label_means, statements_mean, field_means, shared_means, function_means}
+use Rattle.plc_parse.specs.Meaning.{value_means, ghost_means, listed, watch_means, init_means, local_means, op_means}
+use Rattle.plc_parse.specs.Meaning.{placed_op_means, line_at, outlined_means, file_means}
 use Rattle.plc_scope.proofs.Holds.{Has, has_along, weaker, next, any, unless, both_err}
-use Rattle.plc_parse.proofs.Holds.{OneHas, EachHas, one_name, each_has, Free}
+use Rattle.plc_parse.proofs.Holds.{OneHas, EachHas, one_name, each_has, turns, Free}
 use Rattle.plc_parse.proofs.Upward.{Facts, GoesUp, PartsHave, PrimitiveHas, AtomicHas, CallHas, LabelRead, Read}
 use Rattle.plc_parse.proofs.Upward.{statements_read}
 use Rattle.plc_parse.proofs.Reach.{BindingIn, RoleIn, Bound, Reaches, outside, inside, reaches_more, first_reaches}
@@ -270,17 +270,15 @@ module _ (h : Shape) where
 -- ---- locals
 
 module _ (P : Binding → Type 0) (of_local : P LocalOnly) where
-  pub parameters_bound : (s : Scope) (names : List (Placed Text)) → Bound P s → Has (Bound P) (parameters_mean s names)
-  parameters_bound s [] b = b
-  parameters_bound s (n ∷ ns) b = next (Bound P) (Bound P) (declared_parameter s n) _ (parameter_bound P of_local s n b) (λ t c. parameters_bound t ns c)
+  pub parameters_bound : (s : Scope) (names : List (Placed Text)) → Bound P s → Has (Bound P) (in_turn declared_parameter s names)
+  parameters_bound = turns (Bound P) declared_parameter (parameter_bound P of_local)
 
   one_local_bound : (s : Scope) (l : FieldTree) → Bound P s → Has (Bound P) (local_means s l)
   one_local_bound s (PointerFieldTree name) b = local_bound P of_local s name true b
   one_local_bound s (DataFieldTree name) b = local_bound P of_local s name false b
 
-  pub locals_bound : (s : Scope) (ls : List FieldTree) → Bound P s → Has (Bound P) (locals_mean s ls)
-  locals_bound s [] b = b
-  locals_bound s (l ∷ ls) b = next (Bound P) (Bound P) (local_means s l) _ (one_local_bound s l b) (λ t c. locals_bound t ls c)
+  pub locals_bound : (s : Scope) (ls : List FieldTree) → Bound P s → Has (Bound P) (in_turn local_means s ls)
+  locals_bound = turns (Bound P) local_means one_local_bound
 
 -- ---- declarations
 
@@ -320,21 +318,20 @@ module _ (shared fields : ℕ) where
   abbrev ValuesRead : {Y : Type 0} → Y × Scope → Type 0
   ValuesRead v = Reaches h v.1
 
-  one_value_in : (s : Scope) (g n : ℕ) (name : Placed Text) → Reaches h s → Has ValueRead (value_means s g n name)
+  one_value_in : (s : Scope) (g n : ℕ) (name : Placed Text) → Reaches h s → Has ValueRead (value_means g s n name)
   one_value_in s g n name r = next (Reaches h) ValueRead (declared s name (Value g n)) _ (declared_reaches h s name (Value g n) tt r) (λ t k.
       unless ValueRead (n == most limits.Values) _ _ (λ few. k))
 
-  values_in : (s : Scope) (g n : ℕ) (names : List (Placed Text)) → Reaches h s → Has ValuesRead (values_mean s g n names)
+  values_in : (s : Scope) (g n : ℕ) (names : List (Placed Text)) → Reaches h s → Has ValuesRead (listed (value_means g) s n names)
   values_in s g n [] r = r
-  values_in s g n (name ∷ names) r = next ValueRead ValuesRead (value_means s g n name) _ (one_value_in s g n name r) (λ first f.
-      next ValuesRead ValuesRead (values_mean first.1 g (n + 1) names) _ (values_in first.1 g (n + 1) names f) (λ others k. k))
+  values_in s g n (name ∷ names) r = next ValueRead ValuesRead (value_means g s n name) _ (one_value_in s g n name r) (λ first f.
+      next ValuesRead ValuesRead (listed (value_means g) first.1 (n + 1) names) _ (values_in first.1 g (n + 1) names f) (λ others k. k))
 
   ghost_in : (s : Scope) (n : ℕ) (g : GhostTree) → Reaches h s → Has (OneHas Free Stays n) (ghost_means s n g)
   ghost_in s n (AuxiliaryTree name OfThreads) r = one_name Free Stays n limits.Ghosts s name _ _ tt (λ few. declared_reaches h s name (Auxiliary n true) tt r)
   ghost_in s n (AuxiliaryTree name (OneOf v vs)) r = unless (OneHas Free Stays n) (n == most limits.Ghosts) _ _ (λ few.
       next (Reaches h) (OneHas Free Stays n) (declared s name (Auxiliary n false)) _ (declared_reaches h s name (Auxiliary n false) tt r) (λ t k.
-      next ValueRead (OneHas Free Stays n) (value_means t n 0 v) _ (one_value_in t n 0 v k) (λ first f.
-      next ValuesRead (OneHas Free Stays n) (values_mean first.1 n 1 vs) _ (values_in first.1 n 1 vs f) (λ others m. record { is = tt; state = m }))))
+      next ValuesRead (OneHas Free Stays n) (listed (value_means n) t 0 (v ∷ vs)) _ (values_in t n 0 (v ∷ vs) k) (λ values m. record { is = tt; state = m })))
 
   -- ---- operations
 
@@ -347,8 +344,8 @@ module _ (shared fields : ℕ) where
       on_line : (line : ℕ) (o : OpTree) → Has (OneHas OpIn Stays n) (op_means lines line s n o)
       on_line line (Operates name ps ls b) = unless (OneHas OpIn Stays n) (n == most limits.Ops) _ _ (λ few.
           next (Reaches h) (OneHas OpIn Stays n) (declared s name Taken) _ (declared_reaches h s name Taken tt r) (λ t k.
-          next (Bound (BindingIn shared fields)) (OneHas OpIn Stays n) (parameters_mean t ps) _ (parameters_bound (BindingIn shared fields) tt t ps k.bound) (λ p c.
-          next (Bound (BindingIn shared fields)) (OneHas OpIn Stays n) (locals_mean p ls) _ (locals_bound (BindingIn shared fields) tt p ls c) (λ l d.
+          next (Bound (BindingIn shared fields)) (OneHas OpIn Stays n) (in_turn declared_parameter t ps) _ (parameters_bound (BindingIn shared fields) tt t ps k.bound) (λ p c.
+          next (Bound (BindingIn shared fields)) (OneHas OpIn Stays n) (in_turn local_means p ls) _ (locals_bound (BindingIn shared fields) tt p ls c) (λ l d.
           let here : Shape = inside shared fields l.locals in
           next (Read (Reaches here) (StatementsIn here)) (OneHas OpIn Stays n) (statements_mean lines l false b) _ (statements_in here lines l false b (record { bound = d; pointers = omega arith; values = omega arith })) (λ body f.
           record { is = f.is; state = record { bound = f.state.bound; pointers = omega arith; values = omega arith } })))))

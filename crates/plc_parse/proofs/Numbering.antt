@@ -1,5 +1,6 @@
 -- Labels are numbered in the order of the text: each has the number of those before it in the file.
-use Rattle.std.proofs.Common.{◌≡◌, ◌==◌, ℕ, ◌+◌, Bool, true, false, Option, Some, None, Ok, List, [], ◌∷◌, ◌++◌, length, refl, sym, ap, ◌∙◌, subst, append_assoc, append-nil, arith}
+use Rattle.std.proofs.Common.{◌≡◌, ◌==◌, ℕ, ◌+◌, Bool, true, false, Option, Some, None, Ok, List, [], ◌∷◌, ◌++◌, length}
+use Rattle.std.proofs.Common.{refl, sym, ap, ◌∙◌, subst, append_assoc, append-nil, arith}
 use Rattle.std.specs.List.{concat, range_with_len}
 use Rattle.std.proofs.lemmas.List.{length-append}
 use Rattle.plc_base.specs.Limits.{most}
@@ -9,13 +10,17 @@ use Rattle.plc_lang.specs.declared.syntax.Primitive.{Primitive}
 use Rattle.plc_lang.specs.declared.syntax.Op.{Op}
 use Rattle.plc_lang.specs.Labels.{label_or_none, statement_labels, block_labels, blocks_labels, labels_by_op}
 use Rattle.plc_lang.specs.Statements.{Statement, Statements, Blocks}
-use Rattle.plc_syntax.specs.Trees.{Text, Placed, StatementTree, PrimitiveStatement, AtomicStatement, CallStatement, IfStatement, ChooseStatement, LoopStatement, BreakStatement, ReturnStatement, LabelStatement, BlockTree, NoStatement, Then as ThenStatement, ElseTree, NoElse, ElseBlock, OrTree, NoOr, OrBlock}
+use Rattle.plc_syntax.specs.Trees.{Text, Placed, StatementTree, PrimitiveStatement, AtomicStatement, CallStatement}
+use Rattle.plc_syntax.specs.Trees.{IfStatement, ChooseStatement, LoopStatement, BreakStatement, ReturnStatement}
+use Rattle.plc_syntax.specs.Trees.{LabelStatement, BlockTree, NoStatement, Then as ThenStatement, ElseTree, NoElse}
+use Rattle.plc_syntax.specs.Trees.{ElseBlock, OrTree, NoOr, OrBlock}
 use Rattle.plc_scope.specs.declared.scope.Scope.{Scope}
 use Rattle.plc_scope.specs.declared.binding.Binding.TheVariants.{Taken}
 use Rattle.plc_scope.specs.Scope.{◌>>=◌, if_new, with_name, with_label}
 use Rattle.plc_scope.specs.Primitives.{primitive_means, condition_means, call_means}
 use Rattle.plc_scope.proofs.Holds.{Has, next, any, unless}
-use Rattle.plc_parse.specs.Meaning.{atomic_means, one_or_skip, label_means, during_means, statement_means, statements_mean, else_means, or_means}
+use Rattle.plc_parse.specs.Meaning.{atomic_means, one_or_skip, label_means, during_means, statement_means}
+use Rattle.plc_parse.specs.Meaning.{statements_mean, else_means, or_means}
 
 -- ---- numbers in order
 

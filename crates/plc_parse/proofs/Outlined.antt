@@ -1,5 +1,5 @@
 -- An outline that was read fits the file that it was read with: what the names in reach after the operations stand for is there in the file.
-use Rattle.std.proofs.Common.{◌≡◌, ℕ, Option, Some, None, Result, Ok, Err, [], refl, arith}
+use Rattle.std.proofs.Common.{◌≡◌, Option, Some, None, Result, Ok, Err, [], refl, arith}
 use Rattle.std.proofs.lemmas.List.Elements.{All-nil}
 use Rattle.plc_lang.specs.declared.syntax.File.{File}
 use Rattle.plc_logic.specs.declared.clause.Outline.{Outline}
@@ -8,7 +8,6 @@ use Rattle.plc_syntax.specs.Trees.{OutlineTree}
 use Rattle.plc_scope.specs.declared.fault.ParseFault.{ParseFault}
 use Rattle.plc_scope.specs.declared.scope.Scope.{Scope}
 use Rattle.plc_scope.specs.declared.binding.Binding.TheVariants.{Shared, PointerField, DataField, Auxiliary, Value}
-use Rattle.plc_scope.specs.Scope.{◌>>=◌}
 use Rattle.plc_scope.proofs.Holds.{Has}
 use Rattle.plc_outparse.specs.Fit.{NamesOf}
 use Rattle.plc_outparse.specs.Meaning.{outline_means}

@@ -1,7 +1,7 @@
 -- Each thing of a file with a meaning stands where its kind may stand. What a name stands for is there and is what the name says (`There.antt`),
 -- and each form asks for the kind that its place wants.
-use Rattle.std.proofs.Common.{◌≡◌, ◌==◌, ◌&&◌, ◌||◌, not, if◌then◌else◌, ℕ, ◌+◌, ◌<◌, Bool, true, false, Option, Some}
-use Rattle.std.proofs.Common.{None, IfSome, Result, Ok, List, [], ◌∷◌, length, slice_get, refl, ap, subst}
+use Rattle.std.proofs.Common.{◌≡◌, ◌==◌, ◌&&◌, ◌||◌, not, if◌then◌else◌, ℕ, ◌<◌, Bool, true, false, Option, Some, None}
+use Rattle.std.proofs.Common.{IfSome, Result, Ok, List, [], ◌∷◌, length, slice_get, refl, ap, subst}
 use Rattle.std.proofs.Math.Bool.{and-false}
 use Rattle.std.proofs.lemmas.Bool.{eqb-true}
 use Rattle.plc_base.specs.declared.ids.FieldId.{FieldId}

@@ -1,5 +1,7 @@
 -- Steps, statements, operations and `init` are well sorted, since each primitive in them is (`Sorted.antt`).
-use Rattle.std.proofs.Common.{◌≡◌, ◌==◌, ◌&&◌, ◌||◌, not, cond, ℕ, ◌+◌, ◌≤◌, Bool, true, false, Option, Some, None, IfSome, Result, Ok, Err, List, [], ◌∷◌, ◌++◌, length, count_by, filter, refl, sym, ap, ◌∙◌, subst, append_assoc, append-nil, arith}
+use Rattle.std.proofs.Common.{◌≡◌, ◌==◌, ◌&&◌, ◌||◌, not, cond, ℕ, ◌+◌, ◌≤◌, Bool, true, false, Option, Some, None}
+use Rattle.std.proofs.Common.{IfSome, Result, Ok, Err, List, [], ◌∷◌, ◌++◌, length, count_by, filter, refl, sym, ap}
+use Rattle.std.proofs.Common.{◌∙◌, subst, append_assoc, append-nil, arith}
 use Rattle.std.specs.List.{list_any, concat}
 use Rattle.std.proofs.Math.Bool.{and-false}
 use Rattle.std.proofs.lemmas.List.Elements.{filter-append}
@@ -17,24 +19,34 @@ use Rattle.plc_lang.specs.Labels.{block_labels, labels_by_op}
 use Rattle.plc_lang.specs.Fit.{StatementsFit}
 use Rattle.plc_lang.specs.Locals.{is_pointer, is_parameter}
 use Rattle.plc_lang.specs.Statements.{Statement, Statements, Blocks}
-use Rattle.plc_lang.specs.WellSorted.{AreWellSorted, is_call, ConditionIsWellSorted, StatementIsWellSorted, StatementsAreWellSorted, BlocksAreWellSorted, ParametersAreFirst, OpIsWellSorted}
-use Rattle.plc_syntax.specs.Trees.{Text, Placed, FieldTree, PointerField as PointerFieldTree, DataField as DataFieldTree, StatementTree, PrimitiveStatement, AtomicStatement, CallStatement, IfStatement, ChooseStatement, LoopStatement, BreakStatement, ReturnStatement, LabelStatement, BlockTree, NoStatement, Then as ThenStatement, ElseTree, NoElse, ElseBlock, OrTree, NoOr, OrBlock, OpTree, Operates}
+use Rattle.plc_lang.specs.WellSorted.{AreWellSorted, is_call, ConditionIsWellSorted, StatementIsWellSorted}
+use Rattle.plc_lang.specs.WellSorted.{StatementsAreWellSorted, BlocksAreWellSorted, ParametersAreFirst, OpIsWellSorted}
+use Rattle.plc_syntax.specs.Trees.{Text, Placed, FieldTree, PointerField as PointerFieldTree}
+use Rattle.plc_syntax.specs.Trees.{DataField as DataFieldTree, StatementTree, PrimitiveStatement, AtomicStatement}
+use Rattle.plc_syntax.specs.Trees.{CallStatement, IfStatement, ChooseStatement, LoopStatement, BreakStatement}
+use Rattle.plc_syntax.specs.Trees.{ReturnStatement, LabelStatement, BlockTree, NoStatement, Then as ThenStatement}
+use Rattle.plc_syntax.specs.Trees.{ElseTree, NoElse, ElseBlock, OrTree, NoOr, OrBlock, OpTree, Operates}
 use Rattle.plc_scope.specs.declared.fault.ParseFault.{ParseFault}
 use Rattle.plc_scope.specs.declared.scope.Scope.{Scope}
 use Rattle.plc_scope.specs.declared.binding.Binding.TheVariants.{Taken}
-use Rattle.plc_scope.specs.Scope.{◌>>=◌, most_locals, with_local, declared, declared_label, local_number, declared_local, declared_parameter}
+use Rattle.plc_scope.specs.Scope.{◌>>=◌, most_locals, with_local, declared, declared_label, local_number}
+use Rattle.plc_scope.specs.Scope.{declared_local, declared_parameter}
 use Rattle.plc_scope.specs.Limits.{stands_at}
 use Rattle.plc_scope.specs.Primitives.{primitive_means, condition_means, call_means}
 use Rattle.plc_scope.proofs.Holds.{Has, weaker, next, unless, both_err}
-use Rattle.plc_parse.specs.Meaning.{counted, before, allocates, count_of, forms_mean, atomic_means, one_or_skip, label_means, during_means, statement_means, statements_mean, else_means, or_means, parameters_mean, local_means, locals_mean, op_means, placed_op_means, line_at}
+use Rattle.plc_outparse.specs.Meaning.{in_turn}
+use Rattle.plc_parse.specs.Meaning.{counted, before, allocates, count_of, forms_mean, atomic_means, one_or_skip}
+use Rattle.plc_parse.specs.Meaning.{label_means, during_means, statement_means, statements_mean, else_means, or_means}
+use Rattle.plc_parse.specs.Meaning.{local_means, op_means, placed_op_means, line_at}
 use Rattle.plc_parse.proofs.Fits.{statements_fit, Kept, number_keeps}
 use Rattle.plc_parse.proofs.Upward.{LabelRead, Read as Fitting}
-use Rattle.plc_parse.proofs.Holds.{OneOn}
+use Rattle.plc_parse.proofs.Holds.{OneOn, turns}
 use Rattle.plc_parse.proofs.Reach.{Bound}
 use Rattle.plc_parse.proofs.Naming.{parameters_bound, locals_bound}
 use Rattle.plc_parse.proofs.There.{Lists, IsThere, AllThere, lists_of, Named, named}
 use Rattle.plc_parse.proofs.Numbering.{Numbered, joined, LabelsRead, many_numbered, labels_push}
-use Rattle.plc_parse.proofs.Sorted.{IsOf, every_kind, MaybePlain, primitive_sorted, condition_sorted, IsCall, call_sorted}
+use Rattle.plc_parse.proofs.Sorted.{IsOf, every_kind, MaybePlain, primitive_sorted, condition_sorted, IsCall}
+use Rattle.plc_parse.proofs.Sorted.{call_sorted}
 
 -- ---- primitives of one step
 
@@ -235,17 +247,16 @@ headed s t h = record {
   labels = h.labels;
 }
 
-parameters_head : (s t : Scope) (names : List (Placed Text)) → Heads s t → Has (Heads s) (parameters_mean t names)
-parameters_head s t [] h = h
-parameters_head s t (n ∷ ns) h = next (AddsLocal t false true) (Heads s) (declared_parameter t n) _ (parameter_adds t n) (λ u a. parameters_head s u ns (heads_on s t u h a))
+parameters_head : (s t : Scope) (names : List (Placed Text)) → Heads s t → Has (Heads s) (in_turn declared_parameter t names)
+parameters_head s = turns (Heads s) declared_parameter (λ t n h.
+    weaker (AddsLocal t false true) (Heads s) (declared_parameter t n) (λ u a. heads_on s t u h a) (parameter_adds t n))
 
 local_headed : (s t : Scope) (l : FieldTree) → Headed s t → Has (Headed s) (local_means t l)
 local_headed s t (PointerFieldTree name) h = weaker (AddsLocal t true false) (Headed s) (declared_local t name true) (λ u a. headed_on s t u true h a) (local_adds t name true)
 local_headed s t (DataFieldTree name) h = weaker (AddsLocal t false false) (Headed s) (declared_local t name false) (λ u a. headed_on s t u false h a) (local_adds t name false)
 
-locals_headed : (s t : Scope) (ls : List FieldTree) → Headed s t → Has (Headed s) (locals_mean t ls)
-locals_headed s t [] h = h
-locals_headed s t (l ∷ ls) h = next (Headed s) (Headed s) (local_means t l) _ (local_headed s t l h) (λ u k. locals_headed s u ls k)
+locals_headed : (s t : Scope) (ls : List FieldTree) → Headed s t → Has (Headed s) (in_turn local_means t ls)
+locals_headed s = turns (Headed s) local_means (local_headed s)
 
 -- ---- operations, whatever else the file has
 
@@ -299,11 +310,11 @@ module _ (d : Lists) where
     there : AllThere d to
 
   locals_read : (s : Scope) (ps : List (Placed Text)) (ls : List FieldTree) → AllThere d s → s.locals ≡ []
-      → Has (LocalsRead s) (parameters_mean s ps >>= λ p. locals_mean p ls)
+      → Has (LocalsRead s) (in_turn declared_parameter s ps >>= λ p. in_turn local_means p ls)
   locals_read s ps ls h none =
-      next (λ p. Heads s p × Bound (IsThere d) p) (LocalsRead s) (parameters_mean s ps) _
-      (both (Heads s) (Bound (IsThere d)) (parameters_mean s ps) (parameters_head s s ps (no_locals s none)) (parameters_bound (IsThere d) tt s ps h)) (λ p k.
-      at_once (locals_mean p ls) (locals_headed s p ls (headed s p k.0)) (locals_bound (IsThere d) tt p ls k.1))
+      next (λ p. Heads s p × Bound (IsThere d) p) (LocalsRead s) (in_turn declared_parameter s ps) _
+      (both (Heads s) (Bound (IsThere d)) (in_turn declared_parameter s ps) (parameters_head s s ps (no_locals s none)) (parameters_bound (IsThere d) tt s ps h)) (λ p k.
+      at_once (in_turn local_means p ls) (locals_headed s p ls (headed s p k.0)) (locals_bound (IsThere d) tt p ls k.1))
     where
       at_once : (r : Result Scope ParseFault) → Has (Headed s) r → Has (Bound (IsThere d)) r → Has (LocalsRead s) r
       at_once (Ok x) a b = record { headed = a; there = b }
@@ -319,8 +330,8 @@ module _ (d : Lists) where
       on_line : (line : ℕ) (o : OpTree) → Has (OneOp ops) (op_means lines line s n o)
       on_line line (Operates name ps ls b) = unless (OneOp ops) (n == most limits.Ops) _ _ (λ few.
           next (Named s Taken) (OneOp ops) (declared s name Taken) _ (named s name Taken) (λ t k.
-          joins (OneOp ops) (parameters_mean t ps) _ _ (
-          next (LocalsRead t) (OneOp ops) (parameters_mean t ps >>= λ p. locals_mean p ls) _ (locals_read t ps ls (k.there d tt h.there) (k.keeps.locals ∙ h.locals)) (λ l read.
+          joins (OneOp ops) (in_turn declared_parameter t ps) _ _ (
+          next (LocalsRead t) (OneOp ops) (in_turn declared_parameter t ps >>= λ p. in_turn local_means p ls) _ (locals_read t ps ls (k.there d tt h.there) (k.keeps.locals ∙ h.locals)) (λ l read.
           next (Body l) (OneOp ops) (statements_mean lines l false b) _ (body_sorted lines l b read.there) (λ body f.
           let same : length l.labels ≡ length s.labels = ap length (read.headed.labels ∙ k.keeps.labels) in
           let here : Numbered (length s.labels) (length body.1.labels) (block_labels body.0) = subst (λ m. Numbered m (length body.1.labels) (block_labels body.0)) same f.numbered in

@@ -1,6 +1,7 @@
 -- What names stand for is there: each declaration stands in the lists of the file at its number, so a name that is in reach stands for
 -- what the file has. Nothing is asked of the lists before they are whole: whatever lists have what was declared have what is in reach.
-use Rattle.std.proofs.Common.{◌≡◌, ◌==◌, ℕ, suc, ◌+◌, ◌≤◌, ◌<◌, Bool, true, false, Option, Some, None, IfSome, Result, Ok, List, [], ◌∷◌, length, slice_get, refl, subst, ap, ◌∙◌, arith}
+use Rattle.std.proofs.Common.{◌≡◌, ◌==◌, ℕ, suc, ◌+◌, ◌≤◌, ◌<◌, Bool, true, false, Option, Some, None, IfSome, Result}
+use Rattle.std.proofs.Common.{Ok, List, [], ◌∷◌, length, slice_get, refl, subst, ap, ◌∙◌, arith}
 use Rattle.std.proofs.lemmas.Option.{slice_get_within}
 use Rattle.std.proofs.lemmas.List.Elements.{All-nil, All-cons, All-push}
 use Rattle.plc_base.specs.Names.{place_of}
@@ -11,18 +12,24 @@ use Rattle.plc_lang.specs.declared.syntax.Field.{Field}
 use Rattle.plc_lang.specs.declared.syntax.Func.{Func}
 use Rattle.plc_lang.specs.declared.syntax.Ghost.{Ghost}
 use Rattle.plc_lang.specs.declared.syntax.File.{File}
-use Rattle.plc_syntax.specs.Trees.{Text, Placed, FieldTree, PointerField as PointerFieldTree, DataField as DataFieldTree, FunctionTree, Declares, GhostTree, Auxiliary as AuxiliaryTree, OneOf, OfThreads}
+use Rattle.plc_syntax.specs.Trees.{Text, Placed, FieldTree, PointerField as PointerFieldTree}
+use Rattle.plc_syntax.specs.Trees.{DataField as DataFieldTree, FunctionTree, Declares, GhostTree}
+use Rattle.plc_syntax.specs.Trees.{Auxiliary as AuxiliaryTree, OneOf, OfThreads}
 use Rattle.plc_scope.specs.declared.fault.ParseFault.{ParseFault}
 use Rattle.plc_scope.specs.declared.scope.Scope.{Scope}
 use Rattle.plc_scope.specs.declared.binding.Binding.{Binding}
 use Rattle.plc_scope.specs.declared.binding.Binding.TheVariants.{Shared, Function, Auxiliary, Value}
 use Rattle.plc_scope.specs.declared.binding.Role.{Role}
-use Rattle.plc_scope.specs.declared.binding.Role.TheVariants.{PointerVariable as pointer_variable, DataLocal as data_local, PointerField as pointer_field, DataField as data_field, Function as function, Auxiliary as auxiliary, Value as value, NoValue as no_value}
+use Rattle.plc_scope.specs.declared.binding.Role.TheVariants.{PointerVariable as pointer_variable}
+use Rattle.plc_scope.specs.declared.binding.Role.TheVariants.{DataLocal as data_local, PointerField as pointer_field}
+use Rattle.plc_scope.specs.declared.binding.Role.TheVariants.{DataField as data_field, Function as function}
+use Rattle.plc_scope.specs.declared.binding.Role.TheVariants.{Auxiliary as auxiliary, Value as value}
+use Rattle.plc_scope.specs.declared.binding.Role.TheVariants.{NoValue as no_value}
 use Rattle.plc_scope.specs.Scope.{◌>>=◌, first_scope, if_new, with_name, declared, binding_role}
 use Rattle.plc_scope.specs.Limits.{within_limit}
 use Rattle.plc_scope.proofs.Holds.{Has, next, unless}
 use Rattle.plc_outparse.specs.Fit.{holds_threads}
-use Rattle.plc_parse.specs.Meaning.{field_means, shared_means, function_means, value_means, values_mean, ghost_means, listed, retire}
+use Rattle.plc_parse.specs.Meaning.{field_means, shared_means, function_means, value_means, ghost_means, listed, retire}
 use Rattle.plc_parse.specs.Growth.{KeepsLists}
 use Rattle.plc_parse.proofs.Reach.{Bound}
 
@@ -144,32 +151,37 @@ pub record ValueThere (s : Scope) (g k : ℕ) (r : ℕ × Scope) : Type 0 where
   pub keeps : KeepsLists s r.1
   pub there : (d : Lists) (h : Ghost) → GhostThere d g h → k < length h.values → AllThere d s → AllThere d r.1
 
-pub value_there : (s : Scope) (g k : ℕ) (name : Placed Text) → Has (ValueThere s g k) (value_means s g k name)
+pub value_there : (s : Scope) (g k : ℕ) (name : Placed Text) → Has (ValueThere s g k) (value_means g s k name)
 value_there s g k name = next (Named s (Value g k)) (ValueThere s g k) (declared s name (Value g k)) _ (named s name (Value g k)) (λ t f.
     unless (ValueThere s g k) (k == most limits.Values) _ _ (λ few. record { keeps = f.keeps; there = λ d h there less before. f.there d (h, there, less) before }))
 
--- the values after the first k
-pub record ValuesThere (s : Scope) (g k : ℕ) (r : List ℕ × Scope) : Type 0 where
+-- so many values after the first k
+pub record ValuesThere (s : Scope) (g k count : ℕ) (r : List ℕ × Scope) : Type 0 where
+  pub count : length r.0 ≡ count
   pub keeps : KeepsLists s r.1
   pub there : (d : Lists) (h : Ghost) → GhostThere d g h → k + length r.0 ≤ length h.values → AllThere d s → AllThere d r.1
 
-pub values_there : (s : Scope) (g k : ℕ) (names : List (Placed Text)) → Has (ValuesThere s g k) (values_mean s g k names)
-values_there s g k [] = record { keeps = record { locals = refl; labels = refl }; there = λ d h there le before. before }
-values_there s g k (name ∷ names) = next (ValueThere s g k) (ValuesThere s g k) (value_means s g k name) _ (value_there s g k name) (λ first f.
-    next (ValuesThere first.1 g (k + 1)) (ValuesThere s g k) (values_mean first.1 g (k + 1) names) _ (values_there first.1 g (k + 1) names) (λ others m.
-    record { keeps = kept_then f.keeps m.keeps; there = λ d h there le before. m.there d h there (omega (arith, le)) (f.there d h there (omega (arith, le)) before) }))
+pub values_there : (s : Scope) (g k : ℕ) (names : List (Placed Text)) → Has (ValuesThere s g k (length names)) (listed (value_means g) s k names)
+values_there s g k [] = record { count = refl; keeps = record { locals = refl; labels = refl }; there = λ d h there le before. before }
+values_there s g k (name ∷ names) = next (ValueThere s g k) (ValuesThere s g k (length (name ∷ names))) (value_means g s k name) _ (value_there s g k name) (λ first f.
+    next (ValuesThere first.1 g (k + 1) (length names)) (ValuesThere s g k (length (name ∷ names))) (listed (value_means g) first.1 (k + 1) names) _ (values_there first.1 g (k + 1) names) (λ others m.
+    record { count = omega (arith, m.count); keeps = kept_then f.keeps m.keeps; there = λ d h there le before. m.there d h there (omega (arith, le)) (f.there d h there (omega (arith, le)) before) }))
+
+-- values that are some hold no threads
+some_values : (vs : List ℕ) (n : ℕ) → length vs ≡ n + 1 → false ≡ holds_threads vs
+some_values [] n e = absurd (omega (arith, e))
+some_values (v ∷ vs) n e = refl
 
 pub ghost_there : (s : Scope) (n : ℕ) (g : GhostTree) → Has (OneThere GhostThere s n) (ghost_means s n g)
 ghost_there s n (AuxiliaryTree name OfThreads) = one_there GhostThere n limits.Ghosts s name _ _ (λ d there. (_, there, refl))
 ghost_there s n (AuxiliaryTree name (OneOf v vs)) = unless (OneThere GhostThere s n) (n == most limits.Ghosts) _ _ (λ few.
     next (Named s (Auxiliary n false)) (OneThere GhostThere s n) (declared s name (Auxiliary n false)) _ (named s name (Auxiliary n false)) (λ t f.
-    next (ValueThere t n 0) (OneThere GhostThere s n) (value_means t n 0 v) _ (value_there t n 0 v) (λ first k.
-    next (ValuesThere first.1 n 1) (OneThere GhostThere s n) (values_mean first.1 n 1 vs) _ (values_there first.1 n 1 vs) (λ others m.
+    next (ValuesThere t n 0 (length (v ∷ vs))) (OneThere GhostThere s n) (listed (value_means n) t 0 (v ∷ vs)) _ (values_there t n 0 (v ∷ vs)) (λ values m.
     record {
-      keeps = kept_then f.keeps (kept_then k.keeps m.keeps);
-      there = λ d there before.
-          m.there d _ there (omega arith) (k.there d _ there (omega arith) (f.there d (_, there, refl) before));
-    }))))
+      keeps = kept_then f.keeps m.keeps;
+      there = λ d there before. m.there d _ there (omega arith)
+          (f.there d (_, there, some_values values.0 (length vs) (m.count ∙ omega arith)) before);
+    })))
 
 -- `retire` is there from the start
 abbrev pub HasRetire : Lists → Type 0

@@ -1,14 +1,20 @@
 -- What holds of the parts of a statement and goes up to the whole holds of each statement that is read: one induction
 -- over the trees for all such facts. Along the way something holds of the scope, which labels leave so.
-use Rattle.std.proofs.Common.{ℕ, ◌+◌, Bool, true, false, Option, Some, None, Result, Ok, Err, List}
+use Rattle.std.proofs.Common.{ℕ, Bool, true, false, Option, Some, None, Result, Ok, Err, List}
 use Rattle.plc_lang.specs.declared.syntax.Primitive.{Primitive}
 use Rattle.plc_lang.specs.declared.syntax.Cond.{Cond}
-use Rattle.plc_lang.specs.Statements.{Statement, Atomic, Call, If, Choose, Loop, Break, Return, Label, Statements, Empty, Then, Blocks, NoBlock, And}
-use Rattle.plc_syntax.specs.Trees.{Text, Placed, ConditionTree, PrimitiveTree, ArgumentTree, StatementTree, PrimitiveStatement, AtomicStatement, CallStatement, IfStatement, ChooseStatement, LoopStatement, BreakStatement, ReturnStatement, LabelStatement, BlockTree, NoStatement, Then as ThenStatement, ElseTree, NoElse, ElseBlock, OrTree, NoOr, OrBlock}
+use Rattle.plc_lang.specs.Statements.{Statement, Atomic, Call, If, Choose, Loop, Break, Return, Label, Statements}
+use Rattle.plc_lang.specs.Statements.{Empty, Then, Blocks, NoBlock, And}
+use Rattle.plc_syntax.specs.Trees.{Text, Placed, ConditionTree, PrimitiveTree, ArgumentTree, StatementTree}
+use Rattle.plc_syntax.specs.Trees.{PrimitiveStatement, AtomicStatement, CallStatement, IfStatement, ChooseStatement}
+use Rattle.plc_syntax.specs.Trees.{LoopStatement, BreakStatement, ReturnStatement, LabelStatement, BlockTree}
+use Rattle.plc_syntax.specs.Trees.{NoStatement, Then as ThenStatement, ElseTree, NoElse, ElseBlock, OrTree, NoOr}
+use Rattle.plc_syntax.specs.Trees.{OrBlock}
 use Rattle.plc_scope.specs.declared.fault.ParseFault.{ParseFault}
 use Rattle.plc_scope.specs.declared.scope.Scope.{Scope}
 use Rattle.plc_scope.specs.Primitives.{primitive_means, condition_means, CallMeaning, call_means}
-use Rattle.plc_parse.specs.Meaning.{atomic_means, one_or_skip, label_means, during_means, statement_means, statements_mean, else_means, or_means}
+use Rattle.plc_parse.specs.Meaning.{atomic_means, one_or_skip, label_means, during_means, statement_means}
+use Rattle.plc_parse.specs.Meaning.{statements_mean, else_means, or_means}
 use Rattle.plc_scope.proofs.Holds.{Has, next}
 
 -- what is asked of conditions, statements, blocks and blocks side by side

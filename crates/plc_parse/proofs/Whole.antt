@@ -1,6 +1,6 @@
 -- A file with a meaning is well sorted, its observer's functions are declared, and its outline fits it: what its declarations put in reach is
 -- there in the lists of the whole file.
-use Rattle.std.proofs.Common.{◌≡◌, ℕ, ◌+◌, false, Option, Some, None, Result, Ok, Err, List, [], ◌∷◌, length, slice_get}
+use Rattle.std.proofs.Common.{◌≡◌, ℕ, false, Option, Some, None, Result, Ok, Err, List, [], ◌∷◌, length, slice_get}
 use Rattle.std.proofs.Common.{refl, ap, ◌∙◌, arith}
 use Rattle.std.specs.List.{concat}
 use Rattle.plc_lang.specs.declared.syntax.Primitive.{Primitive}
@@ -15,14 +15,14 @@ use Rattle.plc_syntax.specs.Trees.{Placed, InitialTree, WatchTree, UseHazard, Us
 use Rattle.plc_scope.specs.declared.fault.ParseFault.{ParseFault}
 use Rattle.plc_scope.specs.declared.scope.Scope.{Scope}
 use Rattle.plc_scope.specs.declared.binding.Binding.TheVariants.{Taken}
-use Rattle.plc_scope.specs.Scope.{◌>>=◌, first_scope, declared, role_as, as_protecting, as_without_pointer}
+use Rattle.plc_scope.specs.Scope.{first_scope, declared, role_as, as_protecting, as_without_pointer}
 use Rattle.plc_scope.specs.Primitives.{initial_means}
 use Rattle.plc_scope.proofs.Holds.{Has, has_along, next}
 use Rattle.plc_outparse.proofs.Fits.{at_start}
 use Rattle.plc_parse.specs.declared.unit.Unit.{Unit as FileUnit}
 use Rattle.plc_parse.specs.Growth.{KeepsLists}
 use Rattle.plc_parse.specs.Fit.{WatchesDeclared}
-use Rattle.plc_parse.specs.Meaning.{field_means, shared_means, function_means, ghost_means, listed, initials_mean}
+use Rattle.plc_parse.specs.Meaning.{field_means, shared_means, function_means, ghost_means, listed, forms_mean}
 use Rattle.plc_parse.specs.Meaning.{watch_means, init_means, placed_op_means, outlined_means, file_means, file_from}
 use Rattle.plc_parse.specs.Meaning.{retire}
 use Rattle.plc_parse.proofs.Holds.{EachOn, each_on}
@@ -61,7 +61,7 @@ Starts d ks = (w : With d) → Step w.0 is_initial false ks
 
 starts_sorted : (d : Lists) (s : Scope) (starts : Option (List (Placed InitialTree))) → AllThere d s → Has (Starts d) (init_means s starts)
 starts_sorted d s None h = λ w. record { each = tt; one_new = omega arith }
-starts_sorted d s (Some is) h = at_once (initials_mean s is) (λ w. forms_sorted w.0 is_initial (initial_means s) (initial_sorted w.0 s (there_with d s w h)) 0 false is)
+starts_sorted d s (Some is) h = at_once (forms_mean (initial_means s) 0 false is) (λ w. forms_sorted w.0 is_initial (initial_means s) (initial_sorted w.0 s (there_with d s w h)) 0 false is)
   where
     at_once : (r : Result (List Primitive) ParseFault) → ((w : With d) → Has (Step w.0 is_initial false) r) → Has (Starts d) r
     at_once (Ok ks) k = k

@@ -12,7 +12,7 @@ use Rattle.plc_parse.specs.declared.file.Declared.{Declared}
 use Rattle.plc_parse.specs.declared.file.Front.{Front}
 use Rattle.plc_parse.specs.Growth.{GrowsByLabels, AddsLocals}
 use Rattle.plc_syntax.specs.Trees.{Text, Placed, StatementTree, OrTree}
-use Rattle.plc_parse.specs.Meaning.{counted, before, allocates, statement_means, or_means, values_mean}
+use Rattle.plc_parse.specs.Meaning.{counted, before, allocates, statement_means, or_means, value_means, listed}
 use Rattle.plc_parse.specs.Parts.{DeclaredParts, FrontParts}
 
 -- a form is answered as it is meant, and where it has a meaning labels alone were declared
@@ -53,4 +53,4 @@ choices_mean lines s in_loop first second os =
 
 -- the values of an auxiliary field whose first is known
 unfoldable pub values_with : Scope → ℕ → ℕ → List (Placed Text) → Result (List ℕ × Scope) ParseFault
-values_with s g first names = values_mean s g 1 names >>= λ others. Ok (first ∷ others.0, others.1)
+values_with s g first names = listed (value_means g) s 1 names >>= λ others. Ok (first ∷ others.0, others.1)

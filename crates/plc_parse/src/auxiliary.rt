@@ -26,7 +26,7 @@ fn declare_value(scope: &mut Scope, owner: usize, count: usize, name: Name) -> M
     requires room { HasRoom scope.old 1 }
     ensures limit { IfOk result (λ _. count < most What1.Values) }
     ensures read { Gives (λ number. (number, scope.new)) result
-        (value_means scope.old owner count (name_tree name.entry)) }
+        (value_means owner scope.old count (name_tree name.entry)) }
     ensures declares { IfOk result (λ _. AddsNames scope.old scope.new 1) }
 {
     let number = declare(scope, name, Binding::Value(owner as u16, count as u16))?;

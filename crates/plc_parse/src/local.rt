@@ -4,7 +4,8 @@ ghost use Rattle.plc_syntax.specs.Views.{name_tree, field_tree};
 ghost use Rattle.plc_tree.specs.FileViews.{parameters_names};
 ghost use Rattle.plc_scope.specs.Answers.{Gives, HasRoomForLocals, GrowsByLocals};
 ghost use Rattle.plc_scope.specs.Scope.{declared_parameter, declared_local};
-ghost use Rattle.plc_parse.specs.Meaning.{local_means, parameters_mean, locals_mean};
+ghost use Rattle.plc_parse.specs.Meaning.{local_means};
+ghost use Rattle.plc_outparse.specs.Meaning.{in_turn};
 ghost use Rattle.plc_parse.specs.Views.{DeclaresLocals};
 
 use plc_scope::{Meaning, Scope};
@@ -25,7 +26,7 @@ fn declare_parameter(scope: &mut Scope, name: Name) -> Meaning<()>
 /// Declares parameters in order.
 fn declare_names(scope: &mut Scope, names: &[Name]) -> Meaning<()>
     requires { HasRoomForLocals scope.old }
-    ensures { DeclaresLocals (parameters_mean scope.old (map name_tree names.now)) scope.old scope.new result }
+    ensures { DeclaresLocals (in_turn declared_parameter scope.old (map name_tree names.now)) scope.old scope.new result }
 {
     for name in names {
         declare_parameter(scope, *name)?;
@@ -36,7 +37,7 @@ fn declare_names(scope: &mut Scope, names: &[Name]) -> Meaning<()>
 /// Declares the parameters, of which there may be none.
 pub fn declare_parameters(scope: &mut Scope, parameters: &Parameters) -> Meaning<()>
     requires { HasRoomForLocals scope.old }
-    ensures { DeclaresLocals (parameters_mean scope.old (parameters_names parameters.now)) scope.old scope.new
+    ensures { DeclaresLocals (in_turn declared_parameter scope.old (parameters_names parameters.now)) scope.old scope.new
         result }
 {
     match parameters {
@@ -73,7 +74,7 @@ fn declare_local(scope: &mut Scope, declaration: Declaration) -> Meaning<()>
 /// Declares the locals that are no parameters.
 pub fn declare_locals(scope: &mut Scope, locals: &[Declaration]) -> Meaning<()>
     requires { HasRoomForLocals scope.old }
-    ensures { DeclaresLocals (locals_mean scope.old (map field_tree locals.now)) scope.old scope.new result }
+    ensures { DeclaresLocals (in_turn local_means scope.old (map field_tree locals.now)) scope.old scope.new result }
 {
     for local in locals {
         declare_local(scope, *local)?;

@@ -7,7 +7,8 @@ use Rattle.plc_scope.proofs.Sequence.{bind_stops}
 use Rattle.plc_scope.proofs.Turns.{ahead, makes, makes_none, made}
 use Rattle.plc_parse.specs.Views.{values_with}
 use Rattle.plc_parse.proofs.Growth.{lists_then}
-use Rattle.plc_parse.proofs.Loops.{one_declared, all_declared, values_from, one_value, values_go, one_more, all_of}
+use Rattle.plc_parse.specs.Meaning.{value_means}
+use Rattle.plc_parse.proofs.Loops.{one_declared, all_declared, listed_from, one_listed, listed_go, one_more, all_of}
 use Rattle.plc_parse.proofs.auxiliary.declare_values.Goals as goal
 
 pub returns-in_err-number-clause-read : goal.returns-in_err-number-clause-read
@@ -15,8 +16,8 @@ unfolding values_with
 returns-in_err-number-clause-read c =
     let l = c.loop-name in
     let p = err_from_is_err_and c.from_residual-in_err-number.result c.from_residual-in_err-number.ensures.1 in
-    rw (p.1, p.2) (makes_none (values_from c.args.owner name_tree) (one_value c.args.owner name_tree) one_declared
-    all_declared (values_go c.args.owner name_tree) (l.scope, length l.values) c.args.others.now l.name-index _ _ l.values
+    rw (p.1, p.2) (makes_none (listed_from (value_means c.args.owner) name_tree) (one_listed (value_means c.args.owner) name_tree) one_declared
+    all_declared (listed_go (value_means c.args.owner) name_tree) (l.scope, length l.values) c.args.others.now l.name-index _ _ l.values
     _ _ refl c.loop-name-test.true (bind_stops _ _ (λ f. Ok (f.0, (f.1, length l.values + 1)))
     (rw c.len.ensures at c.in_err-number.ensures.read)) l.invariant.read)
 
@@ -33,11 +34,11 @@ loop-name-preserved c =
       names = omega (arith, l.invariant.names, c.in_ok-number.ensures.declares.names.names);
       limit = c.in_ok-number.ensures.declares.names.limit ∙ l.invariant.limit;
       lists = lists_then _ _ _ l.invariant.lists c.in_ok-number.ensures.declares.lists;
-      read = ap (λ (n : ℕ). ahead (values_from c.args.owner name_tree) (one_value c.args.owner name_tree) one_declared
-          all_declared (values_go c.args.owner name_tree) c.push-in-loop-name.new.self (values_from c.args.owner name_tree
+      read = ap (λ (n : ℕ). ahead (listed_from (value_means c.args.owner) name_tree) (one_listed (value_means c.args.owner) name_tree) one_declared
+          all_declared (listed_go (value_means c.args.owner) name_tree) c.push-in-loop-name.new.self (listed_from (value_means c.args.owner) name_tree
           (c.declare_value.new.scope, n) (drop (l.name-index + 1) c.args.others.now))) count
-          ∙ makes (values_from c.args.owner name_tree) (one_value c.args.owner name_tree) one_declared all_declared
-          (values_go c.args.owner name_tree) (l.scope, length l.values) _ c.args.others.now l.name-index _ _ l.values
+          ∙ makes (listed_from (value_means c.args.owner) name_tree) (one_listed (value_means c.args.owner) name_tree) one_declared all_declared
+          (listed_go (value_means c.args.owner) name_tree) (l.scope, length l.values) _ c.args.others.now l.name-index _ _ l.values
           c.push-in-loop-name.new.self c.in_ok-number.number refl c.loop-name-test.true
           (λ o. one_more l.values c.push-in-loop-name.new.self c.in_ok-number.number pushed o)
           (ap (λ r. r >>= λ f. Ok (f.0, (f.1, length l.values + 1)))
@@ -49,7 +50,7 @@ pub returns-clause-read : goal.returns-clause-read
 unfolding values_with
 returns-clause-read c =
     let l = c.loop-name in
-    made (values_from c.args.owner name_tree) (one_value c.args.owner name_tree) one_declared all_declared
-    (values_go c.args.owner name_tree) (l.scope, length l.values) c.args.others.now l.name-index l.values _
+    made (listed_from (value_means c.args.owner) name_tree) (one_listed (value_means c.args.owner) name_tree) one_declared all_declared
+    (listed_go (value_means c.args.owner) name_tree) (l.scope, length l.values) c.args.others.now l.name-index l.values _
     c.loop-name-test.false l.invariant.read
     ∙ ap (λ o. Ok o) (all_of l.values l.scope)

@@ -15,9 +15,9 @@ use Rattle.plc_scope.proofs.Sequence.{bind_stops, fails_along}
 use Rattle.plc_scope.proofs.Turns.{left_at, makes, makes_none, made}
 use Rattle.plc_parse.specs.Units.{lines_of}
 use Rattle.plc_parse.proofs.Growth.{labels_then, can_still_label}
-use Rattle.plc_parse.proofs.Loops.{lines_before, one_line_more, all_lines, line_made, lines_made, statements_from, one_statement}
-use Rattle.plc_parse.proofs.Loops.{statements_go, blocks_before, one_block_more, all_blocks, block_made, blocks_made, ors_from}
-use Rattle.plc_parse.proofs.Loops.{one_block, ors_go}
+use Rattle.plc_parse.proofs.Loops.{lines_before, one_line_more, all_lines, line_made, lines_made, statements_from}
+use Rattle.plc_parse.proofs.Loops.{one_statement, statements_go, blocks_before, one_block_more, all_blocks, block_made}
+use Rattle.plc_parse.proofs.Loops.{blocks_made, ors_from, one_block, ors_go}
 use Rattle.plc_parse.proofs.block.+block.Goals as goal
 
 pub statements-loop-form-preserved : goal.statements-loop-form-preserved

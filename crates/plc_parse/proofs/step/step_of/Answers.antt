@@ -1,4 +1,4 @@
-use Rattle.std.proofs.Common.{◌≡◌, ◌∙◌, ◌+◌, ◌||◌, ◌++◌, ℕ, Bool, length, drop, Ok, ap}
+use Rattle.std.proofs.Common.{◌∙◌, ◌+◌, ◌||◌, ◌++◌, ℕ, Bool, length, drop, Ok, ap}
 use Rattle.std.proofs.lemmas.List.{append-nil}
 use Rattle.std.proofs.lemmas.Result.{err_from_is_err_and}
 use Rattle.plc_scope.specs.Scope.{◌>>=◌}
