@@ -175,19 +175,17 @@ module _ (K : TokenKind → Type 0) (D : ℕ → Type 0) where
 
   primitives_kept : (ps : List (Placed PrimitiveTree)) → Kept (each_then (placed_then primitive_line_then)) ps (staying ps)
   primitives_kept [] o c r s k h = k h
-  primitives_kept (p ∷ ps) o c r s k h = by p.value h
+  primitives_kept (p ∷ ps) o c r s k h = by (primitives_kept ps o c r s k) p.value h
     where
-      others : Fine o c false (each_then (placed_then primitive_line_then) ps r) → Fine o c false (each_then (placed_then primitive_line_then) (staying ps) s)
-      others = primitives_kept ps o c r s k
-
-      by : (v : PrimitiveTree) → Fine o c false (from_place p.at (primitive_line_then v (each_then (placed_then primitive_line_then) ps r)))
+      by : (Fine o c false (each_then (placed_then primitive_line_then) ps r) → Fine o c false (each_then (placed_then primitive_line_then) (staying ps) s))
+          → (v : PrimitiveTree) → Fine o c false (from_place p.at (primitive_line_then v (each_then (placed_then primitive_line_then) ps r)))
           → Fine o c false (each_then (placed_then primitive_line_then) (staying (at_place p.at v ∷ ps)) s)
-      by SkipPrimitive g = others g
-      by (SetPrimitive x) g = at_kept o c p.at 0 _ _ (set_kept x o c _ _ others) g
-      by (RefreshPrimitive x) g = at_kept o c p.at 0 _ _ (refresh_kept x o c _ _ others) g
-      by (GhostPrimitive x) g = at_kept o c p.at 0 _ _ (ghost_set_kept x o c _ _ others) g
-      by (ActivePrimitive n) g = (g.0, others g.1)
-      by (AssumePrimitive t) g = test_kept t o c _ _ others g
+      by others SkipPrimitive g = others g
+      by others (SetPrimitive x) g = at_kept o c p.at 0 _ _ (set_kept x o c _ _ others) g
+      by others (RefreshPrimitive x) g = at_kept o c p.at 0 _ _ (refresh_kept x o c _ _ others) g
+      by others (GhostPrimitive x) g = at_kept o c p.at 0 _ _ (ghost_set_kept x o c _ _ others) g
+      by others (ActivePrimitive n) g = (g.0, others g.1)
+      by others (AssumePrimitive t) g = test_kept t o c _ _ others g
 
   mutual
     statement_kept : (x : StatementTree) → Kept statement_then x (unplaced_statement (normal_statement x))
@@ -204,7 +202,10 @@ module _ (K : TokenKind → Type 0) (D : ℕ → Type 0) where
 
     block_kept : (b : BlockTree) → Kept statements_then b (unplaced_block (normal_block b))
     block_kept NoStatement o c r s k h = k h
-    block_kept (Then at x b) o c r s k h = at_kept o c at 0 _ _ (statement_kept x o c _ _ (λ g. block_kept b o c r s k g)) h
+    block_kept (Then at x b) o c r s k h =
+        let after = statements_then b r in
+        let kept = statements_then (unplaced_block (normal_block b)) s in
+        at_kept o c at 0 (statement_then x after) (statement_then (unplaced_statement (normal_statement x)) kept) (statement_kept x o c after kept (λ g. block_kept b o c r s k g)) h
 
     else_kept : (e : ElseTree) → Kept else_then e (unplaced_else (normal_else e))
     else_kept NoElse o c r s k h = k h

@@ -28,7 +28,7 @@ use Rattle.plc_print.specs.Canonical.{watch_tree, initial_tree, init_tree, canon
 use Rattle.plc_lang.specs.Names.{name_at}
 use Rattle.plc_print.specs.Outlines.{bare}
 use Rattle.plc_print.proofs.NormalTrees.{normal_starts, normal_op, normal_outline, normal_file}
-use Rattle.plc_print.proofs.Steps.{after, along}
+use Rattle.plc_print.proofs.Steps.{after, held}
 use Rattle.plc_print.proofs.SpelledNames.{Bound, IsBound, Ends, number_named, names_found}
 use Rattle.plc_print.proofs.SpelledPrimitives.{IsInitial, initial_found}
 use Rattle.plc_print.proofs.GrowingScopes.{ends_before, declared_found}
@@ -80,7 +80,7 @@ module _ (file : File) (s : Scope) (bound : Bound file s) where
     init_found None = record { tree = λ e. refl; again = refl }
     init_found (Some []) = record { tree = λ e. refl; again = refl }
     init_found (Some (i ∷ is)) =
-        along (Initials (i ∷ is)) (InitRead (Some (i ∷ is))) (forms_mean (initial_means s) 0 false (i ∷ is)) _
+        held (Initials (i ∷ is)) (InitRead (Some (i ∷ is))) (forms_mean (initial_means s) 0 false (i ∷ is))
         (forms_found (initial_means s) unplaced_initial (λ i. true) (IsInitial file s bound) (Ends file s) (initial_tree file) (λ i h. absurd h) (λ i k h. (refl, h)) (initial_found file s bound none) 0 false (i ∷ is)) (λ ks f e. record {
           tree = λ e. with_primitives ks (unplaced_by unplaced_initial i) (unplaced_sets is) (f.tree e ∙ ap unplaced_sets (all_stay (i ∷ is)));
           again = e;
