@@ -121,7 +121,7 @@ module _ (file : File) where
   pub number_named : (s : Scope) (i : ℕ) (n : Text) → Ends s → slice_get s.names.names i ≡ Some n → name_at file i ≡ n
   number_named s i n ends e = get_or_from_slice_get file.names.names i n [] (ends.names i n e)
 
-  pub role_is : (s : Scope) (n : Text) → Bound s → Ends s → IfSome (role_of s n) (RoleIs s.locals n.value)
+  pub role_is : (s : Scope) (n : Text) → Bound s → Ends s → IfSome (role_of s n) (RoleIs s.locals n)
   unfolding role_of
   role_is s n bound ends =
       let named : (i : ℕ) → place_of n s.names.names ≡ Some i → name_at file i ≡ n = λ i e. number_named s i n ends (place_found n s.names.names i e) in
