@@ -125,7 +125,7 @@ module _ (file : File) where
   unfolding role_of
   role_is s n bound ends =
       let named : (i : ℕ) → place_of n s.names.names ≡ Some i → name_at file i ≡ n = λ i e. number_named s i n ends (place_found n s.names.names i e) in
-      made_is (role_found s.locals) (RoleIs s.locals n.value) s s.locals n
+      made_is (role_found s.locals) (RoleIs s.locals n) s s.locals n
       (λ i j l at there same. named_local s.locals j l n there (ap (name_at file) same ∙ named i at) l.pointer refl) (λ i b at there. named_binding s.locals i n b (named i at) (bound.each i b there))
 
   -- ---- what is found by a name
