@@ -1,31 +1,27 @@
 -- Whether a file has a meaning, and which but for lines, doesn't depend on its places.
-use Rattle.std.proofs.Common.{◌≡◌, ◌==◌, ◌+◌, ◌||◌, ◌&&◌, ℕ, Bool, true, false, if◌then◌else◌, List, [], ◌∷◌, length, map, Option, Some, None, Result, Ok, Err, refl, sym, ap, ◌∙◌, subst}
+use Rattle.std.proofs.Common.{◌≡◌, ◌==◌, ◌+◌, ◌||◌, ℕ, Bool, true, false, if◌then◌else◌, List, [], ◌∷◌, length, map, Option, Some, None, Result, Ok, Err, refl, ap, ◌∙◌, subst}
 use Rattle.plc_base.specs.Limits.{most}
 use Rattle.plc_base.specs.declared.limits.What1.TheVariants as limits
-use Rattle.plc_lang.specs.Allocation.{is_new}
 use Rattle.plc_lang.specs.declared.syntax.Op.{Op}
 use Rattle.plc_lang.specs.declared.syntax.Primitive.{Primitive}
-use Rattle.plc_lang.specs.Statements.{Statement, If, Choose, Loop, Statements, Then, Blocks, And}
-use Rattle.plc_logic.specs.declared.clause.Outline.{Outline}
-use Rattle.plc_syntax.specs.Trees.{Text, Placed, FieldTree, PointerField, DataField, FunctionTree, Declares, WatchTree, UseHazard, UseEpoch, OneOf, OfThreads, GhostTree, Auxiliary, InitialTree, PrimitiveTree}
+use Rattle.plc_lang.specs.Statements.{If, Choose, Loop, Then, And}
+use Rattle.plc_syntax.specs.Trees.{Text, Placed, FieldTree, PointerField, DataField, FunctionTree, Declares, WatchTree, UseHazard, UseEpoch, OneOf, OfThreads, GhostTree, Auxiliary, InitialTree}
 use Rattle.plc_syntax.specs.Trees.{StatementTree, PrimitiveStatement, AtomicStatement, CallStatement, IfStatement, ChooseStatement, LoopStatement, BreakStatement, ReturnStatement, LabelStatement}
 use Rattle.plc_syntax.specs.Trees.{BlockTree, NoStatement, Then as ThenStatement, ElseTree, NoElse, ElseBlock, OrTree, NoOr, OrBlock, OpTree, Operates, OutlineTree, FileTree}
-use Rattle.plc_syntax.proofs.Unplaced.{unplaced, unplaced_by, unplaced_maybe, unplaced_names, unplaced_label, unplaced_field, unplaced_function, unplaced_watch, unplaced_ghost, unplaced_initial, unplaced_sets}
+use Rattle.plc_syntax.proofs.Unplaced.{unplaced, unplaced_by, unplaced_maybe, unplaced_label, unplaced_field, unplaced_function, unplaced_watch, unplaced_ghost, unplaced_initial, unplaced_sets}
 use Rattle.plc_syntax.proofs.Unplaced.{unplaced_primitive, unplaced_statement, unplaced_block, unplaced_else, unplaced_ors, unplaced_op, unplaced_outline, unplaced_file}
 use Rattle.plc_scope.specs.declared.fault.ParseFault.{ParseFault}
 use Rattle.plc_scope.specs.declared.fault.ParseFault.TheVariants as faults
 use Rattle.plc_scope.specs.declared.scope.Scope.{Scope}
-use Rattle.plc_scope.specs.declared.binding.Binding.{Binding}
 use Rattle.plc_scope.specs.declared.binding.Binding.TheVariants as bindings
-use Rattle.plc_scope.specs.Scope.{◌>>=◌, first_scope, without_locals, declared_parameter, as_protecting, as_without_pointer}
+use Rattle.plc_scope.specs.Scope.{◌>>=◌, first_scope, declared_parameter, as_protecting, as_without_pointer}
 use Rattle.plc_scope.specs.Limits.{within_limit, stands_at}
 use Rattle.plc_scope.specs.Primitives.{primitive_means, initial_means}
 use Rattle.plc_scope.proofs.Alike.{Alike, Same, same, go_on, then_alike, then_same, limit_same, refused_same, declared_same, declared_label_same, declared_local_same, declared_parameter_same}
 use Rattle.plc_scope.proofs.Alike.{name_same, condition_same, primitive_same, initial_same, call_same}
 use Rattle.plc_outparse.specs.Meaning.{in_turn}
 use Rattle.plc_outparse.proofs.Alike.{outline_same}
-use Rattle.plc_parse.specs.declared.unit.Unit.{Unit as FileUnit}
-use Rattle.plc_parse.specs.Meaning.{counted, forms_mean, atomic_means, count_of, allocates, label_means, during_means, statement_means, statements_mean, else_means, or_means, field_means, shared_means}
+use Rattle.plc_parse.specs.Meaning.{counted, forms_mean, count_of, allocates, label_means, during_means, statement_means, statements_mean, else_means, or_means, field_means, shared_means}
 use Rattle.plc_parse.specs.Meaning.{function_means, value_means, ghost_means, listed, watch_means, init_means, local_means, placed_op_means, op_means, line_at, outlined_means, retire, file_means}
 use Rattle.plc_print.specs.Laws.{statement_without_lines, without_lines, blocks_without_lines, op_without_lines, SameUpToLines}
 use Rattle.plc_print.proofs.OutlineLines.{same_outline}

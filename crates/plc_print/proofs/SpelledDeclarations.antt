@@ -15,7 +15,7 @@ use Rattle.plc_parse.specs.Meaning.{field_means, shared_means, function_means, v
 use Rattle.plc_scope.proofs.Holds.{Has, next, unless}
 use Rattle.plc_print.specs.Canonical.{declaration_tree, ghost_kind}
 use Rattle.plc_lang.specs.Names.{name_at, values_of}
-use Rattle.plc_syntax.proofs.Unplaced.{unplaced, unplaced_names, unplaced_field, unplaced_function, unplaced_ghost}
+use Rattle.plc_syntax.proofs.Unplaced.{unplaced, unplaced_field, unplaced_function, unplaced_ghost}
 use Rattle.plc_print.specs.Outlines.{bare}
 use Rattle.plc_print.proofs.SpelledNames.{Ends}
 use Rattle.plc_print.proofs.GrowingScopes.{Goes, goes_nowhere, goes_on, ends_before, Declares, declared_found, goes_by, declared_name}

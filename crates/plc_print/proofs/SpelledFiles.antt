@@ -1,6 +1,6 @@
 -- A file that is read is spelled by its normal tree without places, and the normal tree means the same unit.
 use Rattle.std.proofs.Common.{◌≡◌, ℕ, zero, suc, ◌+◌, true, false, Option, Some, None, Result, Ok, Err, List, [], ◌∷◌}
-use Rattle.std.proofs.Common.{map, filter, slice_get, refl, sym, ap, ◌∙◌, subst, arith}
+use Rattle.std.proofs.Common.{map, slice_get, refl, ap, ◌∙◌, subst, arith}
 use Rattle.plc_auto.specs.declared.observer.Observer.{Observer}
 use Rattle.plc_lang.specs.declared.syntax.File.{File}
 use Rattle.plc_lang.specs.declared.syntax.Field.{Field}
@@ -10,9 +10,9 @@ use Rattle.plc_lang.specs.declared.syntax.Op.{Op}
 use Rattle.plc_lang.specs.declared.syntax.Primitive.{Primitive}
 use Rattle.plc_syntax.specs.Trees.{Text, Placed, FieldTree, FunctionTree, WatchTree, UseHazard, UseEpoch, GhostTree}
 use Rattle.plc_syntax.specs.Trees.{InitialTree, OpTree, OutlineTree, FileTree}
-use Rattle.plc_syntax.proofs.Unplaced.{unplaced, unplaced_by, unplaced_maybe, unplaced_names, unplaced_field}
+use Rattle.plc_syntax.proofs.Unplaced.{unplaced, unplaced_by, unplaced_maybe, unplaced_field}
 use Rattle.plc_syntax.proofs.Unplaced.{unplaced_function, unplaced_watch, unplaced_ghost, unplaced_initial}
-use Rattle.plc_syntax.proofs.Unplaced.{unplaced_sets, unplaced_op, unplaced_outline, unplaced_file}
+use Rattle.plc_syntax.proofs.Unplaced.{unplaced_sets, unplaced_file}
 use Rattle.plc_scope.specs.declared.fault.ParseFault.{ParseFault}
 use Rattle.plc_scope.specs.declared.scope.Scope.{Scope}
 use Rattle.plc_scope.specs.declared.binding.Binding.{Binding}
@@ -27,7 +27,7 @@ use Rattle.plc_scope.proofs.Holds.{Has, has_along, next}
 use Rattle.plc_print.specs.Canonical.{watch_tree, initial_tree, init_tree, canonical_tree}
 use Rattle.plc_lang.specs.Names.{name_at}
 use Rattle.plc_print.specs.Outlines.{bare}
-use Rattle.plc_print.proofs.NormalTrees.{normal_starts, normal_op, normal_outline, normal_file}
+use Rattle.plc_print.proofs.NormalTrees.{normal_starts, normal_outline, normal_file}
 use Rattle.plc_print.proofs.Steps.{after, held}
 use Rattle.plc_print.proofs.SpelledNames.{Bound, IsBound, Ends, number_named, names_found}
 use Rattle.plc_print.proofs.SpelledPrimitives.{IsInitial, initial_found}

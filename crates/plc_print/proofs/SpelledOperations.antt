@@ -1,5 +1,5 @@
 -- Operations that are read are spelled by their normal tree, without places and with parameters before other locals, and the normal tree means the same.
-use Rattle.std.proofs.Common.{◌≡◌, ◌==◌, ℕ, ◌+◌, Bool, true, false, if◌then◌else◌, Option, Some, None, Result, Ok, Err, List, [], ◌∷◌, ◌++◌, map, filter, slice_get, length, refl, sym, ap, ap₂, ◌∙◌, append_assoc, append-nil}
+use Rattle.std.proofs.Common.{◌≡◌, ◌==◌, ℕ, ◌+◌, Bool, true, false, if◌then◌else◌, Option, Some, None, Ok, Err, List, [], ◌∷◌, ◌++◌, map, filter, slice_get, length, refl, sym, ap, ap₂, ◌∙◌, append_assoc, append-nil}
 use Rattle.std.proofs.lemmas.List.{map-append}
 use Rattle.std.proofs.lemmas.List.Elements.{filter-append}
 use Rattle.plc_base.specs.Limits.{most}
@@ -11,18 +11,17 @@ use Rattle.plc_lang.specs.declared.syntax.Local.{Local}
 use Rattle.plc_lang.specs.declared.syntax.Op.{Op}
 use Rattle.plc_lang.specs.Statements.{Statements}
 use Rattle.plc_syntax.specs.Trees.{Text, Placed, FieldTree, PointerField as PointerFieldTree, DataField as DataFieldTree, BlockTree, OpTree, Operates}
-use Rattle.plc_scope.specs.declared.fault.ParseFault.{ParseFault}
 use Rattle.plc_scope.specs.declared.fault.ParseFault.TheVariants as faults
 use Rattle.plc_scope.specs.declared.scope.Scope.{Scope}
 use Rattle.plc_scope.specs.declared.binding.Binding.TheVariants.{Taken, LocalOnly}
-use Rattle.plc_scope.specs.Scope.{◌>>=◌, declared, has_local, may_name_local, local_number, with_local, without_locals, declared_local, declared_parameter}
+use Rattle.plc_scope.specs.Scope.{declared, has_local, may_name_local, local_number, with_local, without_locals, declared_local, declared_parameter}
 use Rattle.plc_outparse.specs.Meaning.{in_turn}
 use Rattle.plc_parse.specs.Meaning.{line_at, statements_mean, local_means, listed, op_means, placed_op_means}
 use Rattle.plc_scope.proofs.Holds.{Has, next, weaker, unless}
 use Rattle.plc_print.specs.Canonical.{declaration_tree, is_declared, op_tree}
 use Rattle.plc_lang.specs.Names.{name_at}
 use Rattle.plc_syntax.specs.Forms.{at_place}
-use Rattle.plc_syntax.proofs.Unplaced.{unplaced, unplaced_by, unplaced_names, unplaced_field, unplaced_op}
+use Rattle.plc_syntax.proofs.Unplaced.{unplaced_by, unplaced_names, unplaced_field, unplaced_op}
 use Rattle.plc_print.specs.Outlines.{bare}
 use Rattle.plc_print.proofs.NormalTrees.{normal_op}
 use Rattle.plc_print.proofs.Steps.{within, after, along}

@@ -25,7 +25,7 @@ use Rattle.plc_logic.specs.declared.clause.Site.TheVariants.{Over, At}
 use Rattle.plc_logic.specs.declared.clause.Item.{Item}
 use Rattle.plc_logic.specs.declared.clause.Outline.{Outline}
 use Rattle.plc_syntax.specs.Forms.{at_place}
-use Rattle.plc_syntax.proofs.Unplaced.{unplaced, unplaced_maybe, unplaced_names, unplaced_item, unplaced_clause, unplaced_outline}
+use Rattle.plc_syntax.proofs.Unplaced.{unplaced, unplaced_maybe, unplaced_names, unplaced_item, unplaced_outline}
 use Rattle.plc_outparse.specs.Reach.{declared_kind}
 use Rattle.plc_outparse.specs.Meaning.{in_turn, clause_means, op_named, op_at, label_named, with_op, label_at, if_same_op, label_step, labels_mean, Parts, item_step, depth_means, outline_means}
 use Rattle.plc_parse.specs.Meaning.{empty_outline, outlined_means}

@@ -30,7 +30,7 @@ use Rattle.plc_lang.specs.Statements.{Statements, Empty, Then, Blocks, NoBlock, 
 use Rattle.plc_auto.specs.declared.observer.Observer.{Observer}
 use Rattle.plc_auto.specs.declared.observer.Observer.TheVariants.{Plain, Hazard, Epoch}
 use Rattle.plc_syntax.specs.Trees.{Text, Placed, FieldTree, PointerField, DataField, Declares, WatchTree, UseHazard}
-use Rattle.plc_syntax.specs.Trees.{UseEpoch, GhostKindTree, OneOf, OfThreads, Auxiliary, PlaceTree, PlaceOf, AtomTree}
+use Rattle.plc_syntax.specs.Trees.{UseEpoch, GhostKindTree, OneOf, OfThreads, Auxiliary, PlaceOf, AtomTree}
 use Rattle.plc_syntax.specs.Trees.{NullAtom, NumberAtom, NameAtom, ValueTree, NullValue, NewValue, NumberValue}
 use Rattle.plc_syntax.specs.Trees.{PlaceValue, SetTree, SetName, SetField, RefreshName, RefreshField, GhostValueTree}
 use Rattle.plc_syntax.specs.Trees.{NameGhost, MeGhost, NoneGhost, GhostSetTree, SetGhost, InitialTree, InitialSet}
