@@ -8,14 +8,14 @@ use Rattle.plc_syntax.specs.declared.form.Placed.{Placed}
 use Rattle.plc_syntax.specs.declared.form.Declaration.{Declaration}
 use Rattle.plc_lang.specs.declared.syntax.Line.{Line}
 use Rattle.plc_lang.specs.declared.syntax.Primitive.{Primitive}
-use Rattle.plc_lang.specs.Statements.{Statement, Statements, Empty, Then, Blocks, NoBlock, And}
+use Rattle.plc_lang.specs.Statements.{Statement, Statements, Choose, Empty, Then, Blocks, NoBlock, And}
 use Rattle.plc_lang.specs.Views.{statement_of, block_of, blocks_of}
 use Rattle.plc_scope.specs.declared.fault.ParseFault.{ParseFault}
 use Rattle.plc_scope.specs.declared.scope.Scope.{Scope}
 use Rattle.plc_scope.specs.Scope.{◌>>=◌, declared_parameter}
-use Rattle.plc_scope.proofs.Sequence.{bind_joins}
+use Rattle.plc_scope.proofs.Sequence.{bind_joins, bind_within}
 use Rattle.plc_scope.proofs.Turns.{ahead}
-use Rattle.plc_syntax.specs.Trees.{Text, Placed as PlacedTree, BlockTree}
+use Rattle.plc_syntax.specs.Trees.{Text, Placed as PlacedTree, ChooseStatement, BlockTree}
 use Rattle.plc_tree.specs.declared.tree.Stmt.{Stmt}
 use Rattle.plc_tree.specs.Views.{statement_tree, block_tree, ors_tree}
 use Rattle.plc_parse.specs.Meaning.{counted, count_of, allocates, before, forms_mean, line_at, statement_means}
@@ -76,6 +76,25 @@ module _ (lines : List ℕ) (in_loop : Bool) where
   abbrev pub one_block : Scope → BlockTree → Result Block ParseFault
   one_block s b = statements_mean lines s in_loop b
 
+  -- the blocks of a choice are its first two and the others
+  pub choice_of : (s : Scope) (at : ℕ) (a b : BlockTree) (bs : List BlockTree)
+      → statement_means lines s in_loop at (ChooseStatement a b (ors_tree bs))
+      ≡ (ors_from s (a ∷ b ∷ bs) >>= λ c. Ok (Choose c.0, c.1))
+  choice_of s at a b bs = bind_within (statements_mean lines s in_loop a) _ _ _ (λ x.
+      let choose : Choices → Result (Statement × Scope) ParseFault = λ o. Ok (Choose (And x.0 o.0), o.1) in
+      bind_within (statements_mean lines x.1 in_loop b) _ _ choose (λ y.
+      bind_within (ors_from y.1 bs) _ _ choose (λ z. refl))
+      ∙ sym (bind_joins (ors_from x.1 (b ∷ bs)) _ _))
+
+  -- where the first two are known
+  pub first_two : (s t u : Scope) (a b : BlockTree) (bs : List BlockTree) (x y : Statements)
+      → one_block s a ≡ Ok (x, t) → one_block t b ≡ Ok (y, u)
+      → (ors_from u bs >>= λ o. Ok (And x (And y o.0), o.1)) ≡ ors_from s (a ∷ b ∷ bs)
+  first_two s t u a b bs x y first second = sym (
+      ap (λ r. r >>= λ f. ors_from f.1 (b ∷ bs) >>= λ o. Ok (block_made f.0 o)) first
+      ∙ ap (λ r. (r >>= λ f. ors_from f.1 bs >>= λ o. Ok (block_made f.0 o)) >>= λ o. Ok (block_made x o)) second
+      ∙ bind_joins (ors_from u bs) (λ o. Ok (block_made y o)) (λ o. Ok (block_made x o)))
+
   pub ors_go : (s : Scope) (b : BlockTree) (bs : List BlockTree) → ors_from s (b ∷ bs)
       ≡ (one_block s b >>= λ f. ors_from f.1 bs >>= λ o. Ok (block_made f.0 o))
   ors_go s b bs = refl
@@ -107,15 +126,11 @@ module _ (lines : List ℕ) (in_loop : Bool) where
       (statements_go lines in_loop) made (statements_from lines in_loop now rest)
       ≡ statements_from lines in_loop start whole
 
-  -- the blocks before others, as those that were made
-  abbrev pub with_blocks : List Statements → Result Choices ParseFault → Result Choices ParseFault
-  with_blocks = ahead (ors_from lines in_loop) (one_block lines in_loop) block_made blocks_made (ors_go lines in_loop)
-
-  -- the blocks made and those from a place on are the first ones and all others
-  abbrev pub BlocksAreAhead : List Statements → Scope → List BlockTree → List Statements → Scope → List BlockTree
-      → Type 0
-  BlocksAreAhead made now rest first start whole =
-      with_blocks made (ors_from lines in_loop now rest) ≡ with_blocks first (ors_from lines in_loop start whole)
+  -- the blocks made and those from a place on are all blocks
+  abbrev pub BlocksAreAhead : List Statements → Scope → List BlockTree → Scope → List BlockTree → Type 0
+  BlocksAreAhead made now rest start whole =
+      ahead (ors_from lines in_loop) (one_block lines in_loop) block_made blocks_made (ors_go lines in_loop) made
+      (ors_from lines in_loop now rest) ≡ ors_from lines in_loop start whole
 
 -- ---- declarations
 

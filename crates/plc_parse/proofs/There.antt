@@ -156,8 +156,8 @@ value_there s g k name = next (Named s (Value g k)) (ValueThere s g k) (declared
     unless (ValueThere s g k) (k == most limits.Values) _ _ (λ few. record { keeps = f.keeps; there = λ d h there less before. f.there d (h, there, less) before }))
 
 -- so many values after the first k
-pub record ValuesThere (s : Scope) (g k count : ℕ) (r : List ℕ × Scope) : Type 0 where
-  pub count : length r.0 ≡ count
+pub record ValuesThere (s : Scope) (g k n : ℕ) (r : List ℕ × Scope) : Type 0 where
+  pub count : length r.0 ≡ n
   pub keeps : KeepsLists s r.1
   pub there : (d : Lists) (h : Ghost) → GhostThere d g h → k + length r.0 ≤ length h.values → AllThere d s → AllThere d r.1
 

@@ -1,19 +1,17 @@
 -- How the program's answers are seen.
-use Rattle.std.specs.Prelude.{◌||◌, ℕ, Bool, List, [], ◌∷◌, ◌++◌, length, Option, Result, Ok, IfOk}
+use Rattle.std.specs.Prelude.{◌||◌, ℕ, Bool, List, [], ◌++◌, length, Option, Result, Ok, IfOk}
 use Rattle.plc_lang.specs.declared.syntax.Primitive.{Primitive}
 use Rattle.plc_lang.specs.declared.syntax.Stmt.{Stmt}
-use Rattle.plc_lang.specs.Statements.{Statements, Blocks, And}
 use Rattle.plc_lang.specs.Views.{statement_of}
 use Rattle.plc_scope.specs.declared.fault.ParseFault.{ParseFault}
 use Rattle.plc_scope.specs.declared.scope.Scope.{Scope}
 use Rattle.plc_scope.specs.Answers.{Gives}
 use Rattle.plc_scope.specs.Scope.{◌>>=◌}
-use Rattle.plc_parse.specs.declared.file.Declared.{Declared}
 use Rattle.plc_parse.specs.declared.file.Front.{Front}
 use Rattle.plc_parse.specs.Growth.{GrowsByLabels, AddsLocals}
-use Rattle.plc_syntax.specs.Trees.{Text, Placed, StatementTree, OrTree}
-use Rattle.plc_parse.specs.Meaning.{counted, before, allocates, statement_means, or_means, value_means, listed}
-use Rattle.plc_parse.specs.Parts.{DeclaredParts, FrontParts}
+use Rattle.plc_syntax.specs.Trees.{StatementTree}
+use Rattle.plc_parse.specs.Meaning.{counted, before, allocates, statement_means}
+use Rattle.plc_parse.specs.Parts.{FrontParts}
 
 -- a form is answered as it is meant, and where it has a meaning labels alone were declared
 pub record MeansHere {X A : Type 0} (seen : X → A) (meant : Result (A × Scope) ParseFault) (old new : Scope)
@@ -37,20 +35,6 @@ abbrev pub with_form : List Primitive → Bool → ℕ → Result (Option Primit
     → Result (List Primitive × Bool) ParseFault
 with_form ks has_new at m = counted (length ks) has_new at m >>= λ k. Ok (ks ++ before k [], has_new || allocates k)
 
--- the declarations before those of auxiliary fields, as the definitions have them
-abbrev pub declared_of : Declared → DeclaredParts
-declared_of d = (d.fields, d.shared, d.functions)
-
 -- what stands before the operations, as the definitions have it
 abbrev pub front_of : Front → FrontParts
-front_of f = (declared_of f.declared, f.observer, f.ghosts, f.init)
-
--- the blocks of a choice whose first two are known
-unfoldable pub choices_mean : List ℕ → Scope → Bool → Statements → Statements → OrTree
-    → Result (Blocks × Scope) ParseFault
-choices_mean lines s in_loop first second os =
-    or_means lines s in_loop os >>= λ others. Ok (And first (And second others.0), others.1)
-
--- the values of an auxiliary field whose first is known
-unfoldable pub values_with : Scope → ℕ → ℕ → List (Placed Text) → Result (List ℕ × Scope) ParseFault
-values_with s g first names = listed (value_means g) s 1 names >>= λ others. Ok (first ∷ others.0, others.1)
+front_of f = (f.declared, f.observer, f.ghosts, f.init)

@@ -1,14 +1,11 @@
 // Auxiliary fields. One is a thread or one of its values, whose names are declared with it.
-ghost use Rattle.std.specs.Prelude.{◌+◌, ◌-◌, ◌<◌, ◌≤◌, IfOk, map};
+ghost use Rattle.std.specs.Prelude.{◌+◌, ◌<◌, ◌≤◌, ◌∷◌, IfOk, map};
 ghost use Rattle.plc_base.specs.Limits.{most};
 ghost use Rattle.plc_syntax.specs.Views.{name_tree};
 ghost use Rattle.plc_scope.specs.Answers.{Gives, HasRoom};
-ghost use Rattle.plc_syntax.specs.Trees.{Auxiliary as AuxiliaryTree, OneOf};
-ghost use Rattle.plc_tree.specs.FormViews.{auxiliary_tree};
-ghost use Rattle.plc_parse.specs.Growth.{AddsNames, ghost_names};
+ghost use Rattle.plc_parse.specs.Growth.{AddsNames};
 ghost use Rattle.plc_parse.specs.Kinds.{auxiliary_fields};
-ghost use Rattle.plc_parse.specs.Meaning.{value_means, ghost_means};
-ghost use Rattle.plc_parse.specs.Views.{values_with};
+ghost use Rattle.plc_parse.specs.Meaning.{value_means, listed};
 
 use crate::declaration::declare;
 use crate::lists::Listed;
@@ -36,78 +33,28 @@ fn declare_value(scope: &mut Scope, owner: usize, count: usize, name: Name) -> M
     Ok(number)
 }
 
-/// The values, of which the first has this number.
+/// The values of an auxiliary field in order, by the numbers of their names.
 fn declare_values(
     alloc: Global,
     scope: &mut Scope,
     owner: usize,
-    first: u16,
+    first: Name,
     others: &[Name],
 ) -> Meaning<Items<u16>>
     requires owner { owner < most What1.Ghosts }
-    requires room { HasRoom scope.old (most What1.Values) }
+    requires room { HasRoom scope.old (most What1.Values + 1) }
     ensures read { Gives (λ values. (values, scope.new)) result
-        (values_with scope.old owner first (map name_tree others.now)) }
-    ensures declares { IfOk result (λ _. AddsNames scope.old scope.new (most What1.Values - 1)) }
+        (listed (value_means owner) scope.old 0 (name_tree first.entry ∷ map name_tree others.now)) }
+    ensures declares { IfOk result (λ _. AddsNames scope.old scope.new (most What1.Values)) }
 {
+    let number = declare_value(scope, owner, 0, first)?;
     let mut values = Items::new(alloc);
-    values.push(first)?;
+    values.push(number)?;
     for name in others {
         let number = declare_value(scope, owner, values.len(), *name)?;
         values.push(number)?;
     }
     Ok(values)
-}
-
-/// An auxiliary field with so many before it that is one of its values.
-#[tactic(auto, unfolding(crate::specs::Views::values_with))]
-fn declare_of_values(
-    alloc: Global,
-    scope: &mut Scope,
-    count: usize,
-    name: Name,
-    first: Name,
-    others: &[Name],
-) -> Meaning<Ghost>
-    requires limit { count < most What1.Ghosts }
-    requires room { HasRoom scope.old ghost_names }
-    ensures read { Gives (λ ghost. (ghost, scope.new)) result (ghost_means scope.old count
-        (AuxiliaryTree (name_tree name.entry) (OneOf (name_tree first.entry) (map name_tree others.now)))) }
-    ensures declares { IfOk result (λ _. AddsNames scope.old scope.new (most What1.Values + 1)) }
-{
-    let name = declare(scope, name, Binding::Auxiliary(count as u16, false))?;
-    let first = declare_value(scope, count, 0, first)?;
-    let values = declare_values(alloc, scope, count, first, others)?;
-    Ok(Ghost { name, values })
-}
-
-/// An auxiliary field with so many before it.
-fn declare_auxiliary(
-    alloc: Global,
-    scope: &mut Scope,
-    count: usize,
-    form: &Auxiliary,
-) -> Meaning<Ghost>
-    requires limit { count ≤ most What1.Ghosts }
-    requires room { HasRoom scope.old ghost_names }
-    ensures limit { IfOk result (λ _. count < most What1.Ghosts) }
-    ensures read { Gives (λ ghost. (ghost, scope.new)) result
-        (ghost_means scope.old count (auxiliary_tree form.now)) }
-    ensures declares { IfOk result (λ _. AddsNames scope.old scope.new (most What1.Values + 1)) }
-{
-    if count == What1::Ghosts.most() as usize {
-        return Err(ParseFault::past(What1::Ghosts));
-    }
-    match &form.kind {
-        AuxiliaryKind::OfThreads => {
-            let name = declare(scope, form.name, Binding::Auxiliary(count as u16, true))?;
-            let values = Items::new(alloc);
-            Ok(Ghost { name, values })
-        }
-        AuxiliaryKind::OneOf(first, others) => {
-            declare_of_values(alloc, scope, count, form.name, *first, others.as_slice())
-        }
-    }
 }
 
 impl<'a> Listed for Auxiliary<'a> {
@@ -116,6 +63,20 @@ impl<'a> Listed for Auxiliary<'a> {
     ghost kind = { auxiliary_fields };
 
     fn declare(&self, alloc: Global, scope: &mut Scope, count: usize) -> Meaning<Ghost> {
-        declare_auxiliary(alloc, scope, count, self)
+        if count == What1::Ghosts.most() as usize {
+            return Err(ParseFault::past(What1::Ghosts));
+        }
+        match &self.kind {
+            AuxiliaryKind::OfThreads => {
+                let name = declare(scope, self.name, Binding::Auxiliary(count as u16, true))?;
+                let values = Items::new(alloc);
+                Ok(Ghost { name, values })
+            }
+            AuxiliaryKind::OneOf(first, others) => {
+                let name = declare(scope, self.name, Binding::Auxiliary(count as u16, false))?;
+                let values = declare_values(alloc, scope, count, *first, others.as_slice())?;
+                Ok(Ghost { name, values })
+            }
+        }
     }
 }

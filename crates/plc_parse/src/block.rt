@@ -1,19 +1,18 @@
 // Statements and the blocks in them. How deep blocks stand within one another was judged before, so the recursion is
 // 65 deep at most.
-ghost use Rattle.plc_lang.specs.Views.{blocks_of};
 ghost use Rattle.plc_syntax.specs.Views.{condition_tree};
-ghost use Rattle.plc_syntax.specs.Trees.{IfStatement, ChooseStatement, LoopStatement};
+ghost use Rattle.plc_syntax.specs.Trees.{IfStatement, ChooseStatement};
 ghost use Rattle.plc_tree.specs.Views.{else_tree, ors_tree, statement_tree};
 ghost use Rattle.plc_parse.specs.Meaning.{statements_mean, else_means};
 ghost use Rattle.plc_parse.specs.Growth.{CanLabel};
 ghost use Rattle.plc_parse.specs.Units.{lines_of};
-ghost use Rattle.plc_parse.specs.Views.{MeansHere, MeansStatement, choices_mean};
+ghost use Rattle.plc_parse.specs.Views.{MeansHere, MeansStatement};
 
 use crate::lines::line_at;
-use crate::statement::{atomic, break_statement, call_statement, label, primitive_statement};
+use crate::statement::{atomic, call_statement, declare_label, primitive_statement};
 use plc_lang::{Block, Line, Stmt};
 use plc_lex::Token;
-use plc_scope::{Meaning, Scope, condition};
+use plc_scope::{Meaning, ParseFault, Scope, condition};
 use plc_syntax::{Call, Condition};
 use plc_tree::{Block as BlockForm, Stmt as StmtForm};
 use std::alloc::Global;
@@ -27,21 +26,6 @@ pub struct Context<'a> {
     pub tokens: &'a [Token],
     /// Whether a loop stands around, so that `break` may stand here.
     pub in_loop: bool,
-}
-
-/// A loop at a place.
-#[cycle(block)]
-fn loop_statement(context: Context, scope: &mut Scope, at: u32, block: &BlockForm) -> Meaning<Stmt>
-    requires { CanLabel scope.old }
-    ensures { MeansStatement (lines_of context.entry.tokens.now) context.entry.in_loop at
-        (LoopStatement block.now) scope.old scope.new result }
-{
-    let body = Context {
-        in_loop: true,
-        ..context
-    };
-    let body = statements(body, scope, block)?;
-    Ok(Stmt::Loop(body))
 }
 
 /// The second block of an `if`, which is empty where it is left out.
@@ -78,33 +62,8 @@ fn if_statement(
     Ok(Stmt::If { cond, yes, no })
 }
 
-/// The blocks of a choice: the first two, whose meaning is known, and those after them.
-#[cycle(block)]
-fn choices(
-    context: Context,
-    scope: &mut Scope,
-    first: Block,
-    second: Block,
-    others: &[BlockForm],
-) -> Meaning<Vec<Block>>
-    requires { CanLabel scope.old }
-    ensures { MeansHere (λ bs. blocks_of bs.items)
-        (choices_mean (lines_of context.entry.tokens.now) scope.old context.entry.in_loop first second
-        (ors_tree others.now)) scope.old scope.new result }
-{
-    let mut choices = Vec::new(context.alloc);
-    choices.push(first)?;
-    choices.push(second)?;
-    for block in others {
-        let block = statements(context, scope, block)?;
-        choices.push(block)?;
-    }
-    Ok(choices)
-}
-
 /// A choice at a place.
 #[cycle(block)]
-#[tactic(auto, unfolding(crate::specs::Views::choices_mean))]
 fn choose_statement(
     context: Context,
     scope: &mut Scope,
@@ -119,8 +78,14 @@ fn choose_statement(
 {
     let first = statements(context, scope, first)?;
     let second = statements(context, scope, second)?;
-    let blocks = choices(context, scope, first, second, others)?;
-    Ok(Stmt::Choose(blocks))
+    let mut choices = Vec::new(context.alloc);
+    choices.push(first)?;
+    choices.push(second)?;
+    for block in others {
+        let block = statements(context, scope, block)?;
+        choices.push(block)?;
+    }
+    Ok(Stmt::Choose(choices))
 }
 
 /// A statement at a place.
@@ -152,10 +117,21 @@ fn statement(context: Context, scope: &mut Scope, at: u32, stmt: &StmtForm) -> M
             second,
             others,
         } => choose_statement(context, scope, at, first, second, others.as_slice()),
-        StmtForm::Loop(block) => loop_statement(context, scope, at, block),
-        StmtForm::Break => break_statement(context.in_loop, at),
+        StmtForm::Loop(block) => {
+            let body = Context {
+                in_loop: true,
+                ..context
+            };
+            let block = statements(body, scope, block)?;
+            Ok(Stmt::Loop(block))
+        }
+        StmtForm::Break if context.in_loop => Ok(Stmt::Break),
+        StmtForm::Break => Err(ParseFault::Undeclared { at }),
         StmtForm::Return => Ok(Stmt::Return),
-        StmtForm::Label(name) => label(scope, *name),
+        StmtForm::Label(name) => {
+            let label = declare_label(scope, *name)?;
+            Ok(Stmt::Label(label))
+        }
     }
 }
 

@@ -10,12 +10,10 @@ ghost use Rattle.plc_scope.specs.Scope.{most_locals};
 ghost use Rattle.plc_tree.specs.FileViews.{heading_tree, file_tree};
 ghost use Rattle.plc_tree.specs.FormViews.{starts_tree, outlined_tree};
 ghost use Rattle.plc_parse.specs.Growth.{AddsNames, op_names, most_labels, ghost_names, front_names};
-ghost use Rattle.plc_parse.specs.Meaning.{retire, watch_means, init_means, outlined_means};
-ghost use Rattle.plc_parse.specs.Meaning.{file_means};
-ghost use Rattle.plc_parse.specs.Parts.{declared_mean, front_means, body_means, parts_mean};
-ghost use Rattle.plc_parse.specs.Parts.{unit_from};
+ghost use Rattle.plc_parse.specs.Meaning.{retire, watch_means, init_means, outlined_means, file_means};
+ghost use Rattle.plc_parse.specs.Parts.{declared_mean, front_means, body_means, parts_mean, unit_from};
 ghost use Rattle.plc_parse.specs.Units.{lines_of};
-ghost use Rattle.plc_parse.specs.Views.{declared_of, front_of};
+ghost use Rattle.plc_parse.specs.Views.{front_of};
 
 use crate::declaration::declare;
 use crate::lists::declare_all;
@@ -39,22 +37,14 @@ const RETIRE: Func = Func {
     pointer: true,
 };
 
-/// The declarations of a file before those of auxiliary fields.
-#[derive(Drop)]
-struct Declared {
-    /// The fields of the struct.
-    fields: Items<Field>,
-    /// The names of the shared pointers.
-    shared: Items<u16>,
-    /// The functions without `retire`.
-    functions: Items<Func>,
-}
+/// The fields of the struct, the names of the shared pointers, and the functions without `retire`.
+type Declared = (Items<Field>, Items<u16>, Items<Func>);
 
-/// The fields of the struct, and then the shared pointers and the functions.
+/// The declarations of a file before those of auxiliary fields.
 #[tactic(auto, unfolding(crate::specs::Parts::declared_mean))]
 fn declarations(alloc: Global, scope: &mut Scope, form: &Heading) -> Meaning<Declared>
     requires { HasRoom scope.old (most limits.Fields + most limits.Shared + most limits.Calls + 1) }
-    ensures read { Gives (λ declared. (declared_of declared, scope.new)) result
+    ensures read { Gives (λ declared. (declared, scope.new)) result
         (declared_mean scope.old (heading_tree form.now)) }
     ensures declares { IfOk result (λ _. AddsNames scope.old scope.new
         (most limits.Fields + most limits.Shared + most limits.Calls)) }
@@ -62,11 +52,7 @@ fn declarations(alloc: Global, scope: &mut Scope, form: &Heading) -> Meaning<Dec
     let fields = declare_all(alloc, scope, form.node.fields.as_slice())?;
     let shared = declare_all(alloc, scope, form.pointers.as_slice())?;
     let functions = declare_all(alloc, scope, form.functions.as_slice())?;
-    Ok(Declared {
-        fields,
-        shared,
-        functions,
-    })
+    Ok((fields, shared, functions))
 }
 
 /// What a file says that is watched: plain where it says nothing.
@@ -189,11 +175,7 @@ fn operations_and_outline(
 fn unit(scope: Scope, front: Front, ops: Items<Op>, outline: Outline) -> Meaning<Unit>
     ensures { Gives (λ unit. unit) result (Ok (unit_from (front_of front) (ops, outline, scope))) }
 {
-    let Declared {
-        fields,
-        shared,
-        functions,
-    } = front.declared;
+    let (fields, shared, functions) = front.declared;
     let funcs = with_retire(functions)?;
     let file = File {
         names: scope.names,

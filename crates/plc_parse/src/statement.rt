@@ -1,11 +1,8 @@
 // Statements that hold no block of statements.
 ghost use Rattle.std.specs.Prelude.{ℕ, Bool, List, IfOk, map};
-ghost use Rattle.plc_lang.specs.Views.{statement_of};
 ghost use Rattle.plc_syntax.specs.Views.{placed_as, name_tree, name_or_none, argument_tree, primitive_tree};
-ghost use Rattle.plc_scope.specs.declared.scope.Scope.{Scope};
 ghost use Rattle.plc_scope.specs.Answers.{Gives};
-ghost use Rattle.plc_syntax.specs.Trees.{PrimitiveStatement, AtomicStatement, CallStatement, BreakStatement};
-ghost use Rattle.plc_syntax.specs.Trees.{LabelStatement};
+ghost use Rattle.plc_syntax.specs.Trees.{PrimitiveStatement, AtomicStatement, CallStatement};
 ghost use Rattle.plc_parse.specs.Growth.{CanLabel, GrowsByLabels};
 ghost use Rattle.plc_parse.specs.Meaning.{label_means, during_means};
 ghost use Rattle.plc_parse.specs.Views.{MeansStatement};
@@ -19,7 +16,7 @@ use std::alloc::Global;
 
 /// Declares a label, and answers its number.
 #[tactic(auto, using(crate::proofs::Growth::labelled))]
-fn declare_label(scope: &mut Scope, name: Name) -> Meaning<u16>
+pub fn declare_label(scope: &mut Scope, name: Name) -> Meaning<u16>
     requires { CanLabel scope.old }
     ensures read { Gives (λ label. (label, scope.new)) result (label_means scope.old (name_tree name.entry)) }
     ensures grows { IfOk result (λ _. GrowsByLabels scope.old scope.new) }
@@ -44,27 +41,6 @@ fn declare_during(scope: &mut Scope, name: Option<Name>) -> Meaning<Option<u16>>
             let label = declare_label(scope, name)?;
             Ok(Some(label))
         }
-    }
-}
-
-/// A label.
-pub fn label(scope: &mut Scope, name: Name) -> Meaning<Stmt>
-    requires { CanLabel scope.old }
-    ensures { (lines : List ℕ) (in_loop : Bool) (at : ℕ) → MeansStatement lines in_loop at
-        (LabelStatement (name_tree name.entry)) scope.old scope.new result }
-{
-    let number = declare_label(scope, name)?;
-    Ok(Stmt::Label(number))
-}
-
-/// A `break` at a place, which must be in a loop.
-pub fn break_statement(in_loop: bool, at: u32) -> Meaning<Stmt>
-    ensures { (lines : List ℕ) (s : Scope) → CanLabel s → MeansStatement lines in_loop at BreakStatement s s result }
-{
-    if in_loop {
-        Ok(Stmt::Break)
-    } else {
-        Err(ParseFault::Undeclared { at })
     }
 }
 

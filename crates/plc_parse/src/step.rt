@@ -1,7 +1,6 @@
 // Primitives that are one step: those of an atomic block and those of `init`. A step has at most 64,
 // of which one allocates; `skip` counts for none.
-ghost use Rattle.std.specs.Prelude.{◌≡◌, ◌==◌, ◌+◌, ◌≤◌, if◌then◌else◌, Option, Some, Result, Ok, [], false};
-ghost use Rattle.std.specs.Prelude.{length, map};
+ghost use Rattle.std.specs.Prelude.{◌≡◌, ◌==◌, ◌+◌, ◌≤◌, if◌then◌else◌, Option, Some, Result, Ok, false, length, map};
 ghost use Rattle.plc_base.specs.Limits.{most};
 ghost use Rattle.plc_lang.specs.declared.syntax.Primitive.{Primitive};
 ghost use Rattle.plc_syntax.specs.Views.{placed_as};
@@ -27,17 +26,6 @@ struct Step {
 }
 
 impl Step {
-    /// A step with no primitive yet.
-    fn new(alloc: Global) -> Step
-        ensures primitives { result.primitives ≡ [] }
-        ensures has_new { result.has_new ≡ false }
-    {
-        Step {
-            primitives: Items::new(alloc),
-            has_new: false,
-        }
-    }
-
     /// Whether there are as many primitives as there may be.
     fn is_full(&self) -> bool
         ensures { result ≡ (length self.now.primitives == most What1.Prims) }
@@ -130,7 +118,10 @@ pub fn step_of<F: StepForm>(
     ensures { Gives (λ primitives. primitives) result
         (forms_mean (F.kind.means scope.now) 0 false (map (placed_as F.kind.tree) forms.now)) }
 {
-    let mut step = Step::new(alloc);
+    let mut step = Step {
+        primitives: Items::new(alloc),
+        has_new: false,
+    };
     for form in forms {
         step.add(form.at, form.value.meaning(scope))?;
     }

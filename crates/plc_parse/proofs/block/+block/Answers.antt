@@ -1,9 +1,8 @@
 use Rattle.std.proofs.Common.{◌∙◌, ◌+◌, ℕ, List, Ok, sym, ap, arith}
 use Rattle.std.proofs.lemmas.Result.{err_from_is_err_and}
 use Rattle.plc_lang.specs.declared.syntax.Line.{Line}
-use Rattle.plc_lang.specs.Statements.{Statements, Blocks, Then}
+use Rattle.plc_lang.specs.Statements.{Statements, Blocks, Then, Choose}
 use Rattle.plc_parse.specs.Meaning.{line_at, statements_mean}
-use Rattle.plc_parse.specs.Views.{choices_mean}
 use Rattle.plc_lang.specs.Views.{statement_of}
 use Rattle.plc_syntax.specs.Trees.{BlockTree}
 use Rattle.plc_syntax.specs.declared.form.Placed.{Placed}
@@ -17,7 +16,7 @@ use Rattle.plc_parse.specs.Units.{lines_of}
 use Rattle.plc_parse.proofs.Growth.{labels_then, can_still_label}
 use Rattle.plc_parse.proofs.Loops.{lines_before, one_line_more, all_lines, line_made, lines_made, statements_from}
 use Rattle.plc_parse.proofs.Loops.{one_statement, statements_go, blocks_before, one_block_more, all_blocks, block_made}
-use Rattle.plc_parse.proofs.Loops.{blocks_made, ors_from, one_block, ors_go}
+use Rattle.plc_parse.proofs.Loops.{blocks_made, ors_from, one_block, ors_go, choice_of}
 use Rattle.plc_parse.proofs.block.+block.Goals as goal
 
 pub statements-loop-form-preserved : goal.statements-loop-form-preserved
@@ -55,22 +54,23 @@ statements-returns t c =
       labels = l.invariant.grows;
     }
 
-pub choices-returns-in_err-block : goal.choices-returns-in_err-block
-unfolding choices_mean
-choices-returns-in_err-block t c =
+pub choose_statement-returns-in_err-block : goal.choose_statement-returns-in_err-block
+choose_statement-returns-in_err-block t c =
     let l = c.loop-block in
     let lines = lines_of c.args.context.tokens.now in
     let in_loop = c.args.context.in_loop in
     let p = err_from_is_err_and c.from_residual-in_err-block.result c.from_residual-in_err-block.ensures.1 in
     rw (p.1, p.2) (record {
       labels = tt;
-      read = makes_none (ors_from lines in_loop) (one_block lines in_loop) block_made blocks_made (ors_go lines in_loop)
+      read = fails_along _ _ _ (sym (choice_of lines in_loop c.args.scope.now c.args.at c.args.first.now c.args.second.now
+          c.args.others.now)) (bind_stops _ _ _
+          (makes_none (ors_from lines in_loop) (one_block lines in_loop) block_made blocks_made (ors_go lines in_loop)
           l.scope c.args.others.now l.block-index c.block-item.result _ l.choices.items _ _ c.block-item.is
-          c.loop-block-test.true c.in_err-block.ensures.read l.invariant.read;
+          c.loop-block-test.true c.in_err-block.ensures.read l.invariant.read));
     })
 
-pub choices-loop-block-preserved : goal.choices-loop-block-preserved
-choices-loop-block-preserved t c =
+pub choose_statement-loop-block-preserved : goal.choose_statement-loop-block-preserved
+choose_statement-loop-block-preserved t c =
     let l = c.loop-block in
     let lines = lines_of c.args.context.tokens.now in
     let in_loop = c.args.context.in_loop in
@@ -88,16 +88,17 @@ choices-loop-block-preserved t c =
           ∙ l.invariant.read;
     }
 
-pub choices-returns : goal.choices-returns
-unfolding choices_mean
-choices-returns t c =
+pub choose_statement-returns : goal.choose_statement-returns
+choose_statement-returns t c =
     let l = c.loop-block in
     let lines = lines_of c.args.context.tokens.now in
     let in_loop = c.args.context.in_loop in
     record {
-      read = made (ors_from lines in_loop) (one_block lines in_loop) block_made blocks_made (ors_go lines in_loop) l.scope
+      read = choice_of lines in_loop c.args.scope.now c.args.at c.args.first.now c.args.second.now c.args.others.now
+          ∙ ap (λ r. r >>= λ b. Ok (Choose b.0, b.1))
+          (made (ors_from lines in_loop) (one_block lines in_loop) block_made blocks_made (ors_go lines in_loop) l.scope
           c.args.others.now l.block-index l.choices.items _ c.loop-block-test.false l.invariant.read
-          ∙ ap (λ (b : Blocks). Ok (b, l.scope)) (all_blocks l.choices.items);
+          ∙ ap (λ (b : Blocks). Ok (b, l.scope)) (all_blocks l.choices.items));
       labels = l.invariant.grows;
     }
 
@@ -112,14 +113,6 @@ statement-returns-in-Atomic t c = rw (c.in-Atomic.is, ← c.as_slice.ensures)
 pub statement-returns-in-Call : goal.statement-returns-in-Call
 statement-returns-in-Call t c = rw c.in-Call.is
     (c.call_statement.ensures (lines_of c.args.context.tokens.now) c.args.context.in_loop c.args.at)
-
-pub statement-returns-in-Break : goal.statement-returns-in-Break
-statement-returns-in-Break t c = rw c.in-Break.is
-    (c.break_statement.ensures (lines_of c.args.context.tokens.now) c.args.scope.now c.requires)
-
-pub statement-returns-in-Label : goal.statement-returns-in-Label
-statement-returns-in-Label t c = rw c.in-Label.is
-    (c.label.ensures (lines_of c.args.context.tokens.now) c.args.context.in_loop c.args.at)
 
 pub statements-statement-requires : goal.statements-statement-requires
 statements-statement-requires t c =
@@ -146,8 +139,8 @@ statements-returns-in_err-stmt t c =
           l.invariant.read);
     })
 
-pub choices-statements-requires : goal.choices-statements-requires
-choices-statements-requires t c =
+pub choose_statement-statements-requires-in-loop-block : goal.choose_statement-statements-requires-in-loop-block
+choose_statement-statements-requires-in-loop-block t c =
     let l = c.loop-block in
     let left = ap (λ (bs : List BlockTree). ors_size (ors_tree bs)) (left_at c.args.others.now l.block-index
     c.block-item.result _ c.block-item.is c.loop-block-test.true) in

@@ -30,6 +30,6 @@ loop-form-preserved c =
           all_declared (listed_go means (placed_as operation_tree)) (l.scope, length l.ops) _ c.args.forms.now l.form-index
           c.form-item.result _ l.ops new op c.form-item.is c.loop-form-test.true (λ o. one_more l.ops new op pushed o)
           (ap (λ r. r >>= λ f. Ok (f.0, (f.1, length l.ops + 1)))
-          (rw (c.len.ensures, c.line_at.ensures) at c.in_ok-op.ensures.read))
+          (rw (c.len.ensures, c.line_at-line.ensures) at c.in_ok-op.ensures.read))
           ∙ l.invariant.read;
     }

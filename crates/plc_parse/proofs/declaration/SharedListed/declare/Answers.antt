@@ -1,5 +1,5 @@
 use Rattle.std.proofs.Common.{arith}
-use Rattle.plc_parse.proofs.declaration.declare_shared.Goals as goal
+use Rattle.plc_parse.proofs.declaration.SharedListed.declare.Goals as goal
 
 pub returns-clause-read : goal.returns-clause-read
 returns-clause-read c = search (arith, c.declare.ensures.read)
