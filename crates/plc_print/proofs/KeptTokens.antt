@@ -2,7 +2,7 @@
 use Rattle.std.proofs.Common.{◌≡◌, ℕ, zero, suc, Bool, true, false, not, cond, Option, Some, None, List, [], ◌∷◌, ◌++◌, map, filter, refl, sym, ap, subst}
 use Rattle.plc_lex.specs.declared.token.TokenKind.{TokenKind}
 use Rattle.plc_lex.specs.declared.token.TokenKind.TheVariants.{Symbol}
-use Rattle.plc_lex.specs.declared.token.Symbol.TheVariants.{OpenBrace, CloseBrace, CloseParen}
+use Rattle.plc_lex.specs.declared.token.Symbol.TheVariants.{OpenBrace, CloseBrace, CloseParen, Semicolon}
 use Rattle.plc_syntax.specs.Trees.{Text, Placed, Pieces, kinds_of, symbol, from_place, placed_then, Comparison, comparison_symbol, each_then, maybe_then, comma_name_then, names_then, FieldTree, PointerField, DataField, field_then, shared_then, FunctionTree, Declares, function_then, WatchTree, UseHazard, UseEpoch, watch_then, OneOf, OfThreads, GhostTree, Auxiliary, ghost_then, PlaceTree, PlaceOf, place_then, AtomTree, NullAtom, NumberAtom, NameAtom, atom_then, ValueTree, NullValue, NewValue, NumberValue, MarkValue, UnmarkValue, PlaceValue, value_then, SetTree, SetName, SetField, set_then, RefreshTree, RefreshName, RefreshField, refresh_then, GhostValueTree, NameGhost, MeGhost, NoneGhost, ghost_value_then, GhostSetTree, SetGhost, ghost_set_then, InitialTree, InitialSet, InitialGhost, initial_then, init_then, TestTree, MarkedTest, UnmarkedTest, Compares, SameAs, OtherThan, LessThan, NotLessThan, test_then, name_or_null_then, ConditionTree, TestCondition, RefreshCondition, CasCondition, condition_then, PrimitiveTree, SetPrimitive, RefreshPrimitive, GhostPrimitive, ActivePrimitive, AssumePrimitive, SkipPrimitive, primitive_then, primitive_line_then, ArgumentTree, NoArgument, NullArgument, NameArgument, ActiveArgument, argument_then, during_then, StatementTree, PrimitiveStatement, AtomicStatement, CallStatement, IfStatement, ChooseStatement, LoopStatement, BreakStatement, ReturnStatement, LabelStatement, BlockTree, NoStatement, Then, ElseTree, NoElse, ElseBlock, OrTree, NoOr, OrBlock, statement_then, statements_then, else_then, or_then, parameters_then, OpTree, Operates, op_then, TermTree, PlaceTerm, NullTerm, NumberTerm, MeTerm, NoneTerm, term_then, FlagTree, RetiredFlag, MarkedFlag, flag_then, LiteralTree, FlagLiteral, NotLiteral, EqualityLiteral, literal_then, BoundTree, NoBound, AllOf, bound_then, or_literal_then, ClauseTree, Claims, clause_then, ItemTree, InvariantItem, OverItem, AtItem, item_then, depth_then, OutlineTree, Outlined, outline_then, FileTree, file_then}
 use Rattle.plc_syntax.specs.Forms.{at_place}
 use Rattle.plc_syntax.proofs.Pieces.{from_kinds}
@@ -175,19 +175,20 @@ module _ (K : TokenKind → Type 0) (D : ℕ → Type 0) where
 
   primitives_kept : (ps : List (Placed PrimitiveTree)) → Kept (each_then (placed_then primitive_line_then)) ps (staying ps)
   primitives_kept [] o c r s k h = k h
-  primitives_kept (p ∷ ps) o c r s k h = by p.value h
+  primitives_kept (p ∷ ps) o c r s k h = by (primitives_kept ps o c r s k) p.value h
     where
-      others : Fine o c false (each_then (placed_then primitive_line_then) ps r) → Fine o c false (each_then (placed_then primitive_line_then) (staying ps) s)
-      others = primitives_kept ps o c r s k
-
-      by : (v : PrimitiveTree) → Fine o c false (from_place p.at (primitive_line_then v (each_then (placed_then primitive_line_then) ps r)))
+      by : (Fine o c false (each_then (placed_then primitive_line_then) ps r) → Fine o c false (each_then (placed_then primitive_line_then) (staying ps) s))
+          → (v : PrimitiveTree) → Fine o c false (from_place p.at (primitive_line_then v (each_then (placed_then primitive_line_then) ps r)))
           → Fine o c false (each_then (placed_then primitive_line_then) (staying (at_place p.at v ∷ ps)) s)
-      by SkipPrimitive g = others g
-      by (SetPrimitive x) g = at_kept o c p.at 0 _ _ (set_kept x o c _ _ others) g
-      by (RefreshPrimitive x) g = at_kept o c p.at 0 _ _ (refresh_kept x o c _ _ others) g
-      by (GhostPrimitive x) g = at_kept o c p.at 0 _ _ (ghost_set_kept x o c _ _ others) g
-      by (ActivePrimitive n) g = (g.0, others g.1)
-      by (AssumePrimitive t) g = test_kept t o c _ _ others g
+      by others SkipPrimitive g = others g
+      by others (SetPrimitive x) g = at_kept o c p.at 0 (primitive_line_then (SetPrimitive x) (each_then (placed_then primitive_line_then) ps r)) (primitive_line_then (unplaced_primitive (SetPrimitive x)) (each_then (placed_then primitive_line_then) (staying ps) s))
+          (set_kept x o c (symbol Semicolon ∷ each_then (placed_then primitive_line_then) ps r) (symbol Semicolon ∷ each_then (placed_then primitive_line_then) (staying ps) s) others) g
+      by others (RefreshPrimitive x) g = at_kept o c p.at 0 (primitive_line_then (RefreshPrimitive x) (each_then (placed_then primitive_line_then) ps r)) (primitive_line_then (unplaced_primitive (RefreshPrimitive x)) (each_then (placed_then primitive_line_then) (staying ps) s))
+          (refresh_kept x o c (symbol Semicolon ∷ each_then (placed_then primitive_line_then) ps r) (symbol Semicolon ∷ each_then (placed_then primitive_line_then) (staying ps) s) others) g
+      by others (GhostPrimitive x) g = at_kept o c p.at 0 (primitive_line_then (GhostPrimitive x) (each_then (placed_then primitive_line_then) ps r)) (primitive_line_then (unplaced_primitive (GhostPrimitive x)) (each_then (placed_then primitive_line_then) (staying ps) s))
+          (ghost_set_kept x o c (symbol Semicolon ∷ each_then (placed_then primitive_line_then) ps r) (symbol Semicolon ∷ each_then (placed_then primitive_line_then) (staying ps) s) others) g
+      by others (ActivePrimitive n) g = (g.0, others g.1)
+      by others (AssumePrimitive t) g = test_kept t o c (symbol Semicolon ∷ each_then (placed_then primitive_line_then) ps r) (symbol Semicolon ∷ each_then (placed_then primitive_line_then) (staying ps) s) others g
 
   mutual
     statement_kept : (x : StatementTree) → Kept statement_then x (unplaced_statement (normal_statement x))
@@ -204,7 +205,10 @@ module _ (K : TokenKind → Type 0) (D : ℕ → Type 0) where
 
     block_kept : (b : BlockTree) → Kept statements_then b (unplaced_block (normal_block b))
     block_kept NoStatement o c r s k h = k h
-    block_kept (Then at x b) o c r s k h = at_kept o c at 0 _ _ (statement_kept x o c _ _ (λ g. block_kept b o c r s k g)) h
+    block_kept (Then at x b) o c r s k h =
+        let after = statements_then b r in
+        let kept = statements_then (unplaced_block (normal_block b)) s in
+        at_kept o c at 0 (statement_then x after) (statement_then (unplaced_statement (normal_statement x)) kept) (statement_kept x o c after kept (λ g. block_kept b o c r s k g)) h
 
     else_kept : (e : ElseTree) → Kept else_then e (unplaced_else (normal_else e))
     else_kept NoElse o c r s k h = k h
@@ -320,7 +324,10 @@ module _ (K : TokenKind → Type 0) (D : ℕ → Type 0) where
 
   ops_kept : (xs : List (Placed OpTree)) → Kept (each_then (placed_then op_then)) xs (map (unplaced_by unplaced_op) (map (λ x. at_place x.at (normal_op x.value)) xs))
   ops_kept [] o c r s k h = k h
-  ops_kept (x ∷ xs) o c r s k h = at_kept o c x.at 0 _ _ (op_kept x.value o c _ _ (λ g. ops_kept xs o c r s k g)) h
+  ops_kept (x ∷ xs) o c r s k h =
+      let after = each_then (placed_then op_then) xs r in
+      let kept = each_then (placed_then op_then) (map (unplaced_by unplaced_op) (map (λ (y : Placed OpTree). at_place y.at (normal_op y.value)) xs)) s in
+      at_kept o c x.at 0 (op_then x.value after) (op_then (unplaced_op (normal_op x.value)) kept) (op_kept x.value o c after kept (λ g. ops_kept xs o c r s k g)) h
 
   starts_kept : (x : Option (List (Placed InitialTree))) → Kept (maybe_then init_then) x (unplaced_maybe unplaced_sets (normal_starts x))
   starts_kept None o c r s k h = k h

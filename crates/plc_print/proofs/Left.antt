@@ -1,5 +1,5 @@
 -- What a loop has printed so far, by what is left to print.
-use Rattle.std.proofs.Common.{◌≡◌, ◌++◌, List}
+use Rattle.std.proofs.Common.{◌≡◌, ◌++◌}
 use Rattle.plc_syntax.specs.Trees.{Pieces, kinds_of}
 use Rattle.plc_print.specs.Text.{text_of}
 use Rattle.plc_print.specs.declared.tokens.Printer.{Printer}

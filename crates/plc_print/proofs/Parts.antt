@@ -61,15 +61,15 @@ place_leads (PlaceOf n None) rest = refl
 place_leads (PlaceOf n (Some f)) rest = refl
 
 pub value_leads : (v : ValueTree) → Leads (value_then v)
-value_leads NullValue rest = refl
-value_leads NewValue rest = refl
+value_leads (NullValue at) rest = refl
+value_leads (NewValue at) rest = refl
 value_leads (NumberValue n) rest = refl
-value_leads (MarkValue n) rest = refl
-value_leads (UnmarkValue n) rest = refl
+value_leads (MarkValue at n) rest = refl
+value_leads (UnmarkValue at n) rest = refl
 value_leads (PlaceValue p) rest = place_leads p rest
 
 pub atom_leads : (a : AtomTree) → Leads (atom_then a)
-atom_leads NullAtom rest = refl
+atom_leads (NullAtom at) rest = refl
 atom_leads (NumberAtom n) rest = refl
 atom_leads (NameAtom n) rest = refl
 
@@ -83,8 +83,8 @@ refresh_leads (RefreshField n f q) rest = refl
 
 pub ghost_value_leads : (v : GhostValueTree) → Leads (ghost_value_then v)
 ghost_value_leads (NameGhost n) rest = refl
-ghost_value_leads MeGhost rest = refl
-ghost_value_leads NoneGhost rest = refl
+ghost_value_leads (MeGhost at) rest = refl
+ghost_value_leads (NoneGhost at) rest = refl
 
 pub ghost_set_leads : (g : GhostSetTree) → Leads (ghost_set_then g)
 ghost_set_leads (SetGhost n g v) rest = rw (ghost_value_leads v rest) refl
@@ -176,16 +176,16 @@ cas_tokens false n old new k l e f =
     ∙ ap (λ ts. k ∷ Symbol Comma ∷ ts) (null_token new l f (symbol CloseParen ∷ [])))
 
 -- the text of a `cas`, with or without `active`
-pub cas_text : (shown given : Bool) (n called : Text) (old new : Option (Placed Text)) (k l : TokenKind) → kinds_of (name_or_null_then old []) ≡ k ∷ [] → kinds_of (name_or_null_then new []) ≡ l ∷ [] → n ≡ called → given ≡ shown
-    → text_of (kinds_of (word Cas ∷ symbol OpenParen ∷ word_if_then Active shown (plain (Name n) ∷ symbol Comma ∷ plain k ∷ symbol Comma ∷ plain l ∷ symbol CloseParen ∷ [])))
+pub cas_text : (shown given : Bool) (n : TokenKind) (called : Text) (old new : Option (Placed Text)) (k l : TokenKind) → kinds_of (name_or_null_then old []) ≡ k ∷ [] → kinds_of (name_or_null_then new []) ≡ l ∷ [] → n ≡ Name called → given ≡ shown
+    → text_of (kinds_of (word Cas ∷ symbol OpenParen ∷ word_if_then Active shown (plain n ∷ symbol Comma ∷ plain k ∷ symbol Comma ∷ plain l ∷ symbol CloseParen ∷ [])))
     ≡ text_of (kinds_of (condition_then (CasCondition given (at_place 0 called) old new) []))
 cas_text true given n called old new k l e f same chosen =
-    sym (ap text_of (cas_tokens true (at_place 0 n) old new k l e f))
-    ∙ ap (λ (m : Text). text_of (kinds_of (condition_then (CasCondition true (at_place 0 m) old new) []))) same
+    ap (λ m. text_of (kinds_of (word Cas ∷ symbol OpenParen ∷ word Active ∷ plain m ∷ symbol Comma ∷ plain k ∷ symbol Comma ∷ plain l ∷ symbol CloseParen ∷ []))) same
+    ∙ sym (ap text_of (cas_tokens true (at_place 0 called) old new k l e f))
     ∙ ap (λ (a : Bool). text_of (kinds_of (condition_then (CasCondition a (at_place 0 called) old new) []))) (sym chosen)
 cas_text false given n called old new k l e f same chosen =
-    sym (ap text_of (cas_tokens false (at_place 0 n) old new k l e f))
-    ∙ ap (λ (m : Text). text_of (kinds_of (condition_then (CasCondition false (at_place 0 m) old new) []))) same
+    ap (λ m. text_of (kinds_of (word Cas ∷ symbol OpenParen ∷ plain m ∷ symbol Comma ∷ plain k ∷ symbol Comma ∷ plain l ∷ symbol CloseParen ∷ []))) same
+    ∙ sym (ap text_of (cas_tokens false (at_place 0 called) old new k l e f))
     ∙ ap (λ (a : Bool). text_of (kinds_of (condition_then (CasCondition a (at_place 0 called) old new) []))) (sym chosen)
 
 -- ---- statements
@@ -222,7 +222,7 @@ mutual
 
   pub statements_leads : (b : BlockTree) → Leads (statements_then b)
   statements_leads NoStatement rest = refl
-  statements_leads (ThenStatement at s b) = at_leads at (λ r. statement_then s (statements_then b r)) (leads_then (statement_then s) (statements_then b) (statement_leads s) (statements_leads b))
+  statements_leads (ThenStatement at s b) rest = at_leads at (λ r. statement_then s (statements_then b r)) (leads_then (statement_then s) (statements_then b) (statement_leads s) (statements_leads b)) rest
 
   pub else_leads : (e : ElseTree) → Leads (else_then e)
   else_leads NoElse rest = refl
@@ -298,10 +298,10 @@ op_leads (Operates n ps locals b) rest =
 
 pub term_leads : (t : TermTree) → Leads (term_then t)
 term_leads (PlaceTerm p) rest = place_leads p rest
-term_leads NullTerm rest = refl
+term_leads (NullTerm at) rest = refl
 term_leads (NumberTerm n) rest = refl
-term_leads MeTerm rest = refl
-term_leads NoneTerm rest = refl
+term_leads (MeTerm at) rest = refl
+term_leads (NoneTerm at) rest = refl
 
 pub flag_leads : (f : FlagTree) → Leads (flag_then f)
 flag_leads (RetiredFlag n) rest = refl

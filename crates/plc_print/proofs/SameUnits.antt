@@ -1,31 +1,28 @@
 -- Whether a file has a meaning, and which but for lines, doesn't depend on its places.
-use Rattle.std.proofs.Common.{◌≡◌, ◌==◌, ◌+◌, ◌||◌, ◌&&◌, ℕ, Bool, true, false, if◌then◌else◌, List, [], ◌∷◌, length, map, Option, Some, None, Result, Ok, Err, refl, sym, ap, ◌∙◌, subst}
+use Rattle.std.proofs.Common.{◌≡◌, ◌==◌, ◌+◌, ◌||◌, ℕ, Bool, true, false, if◌then◌else◌, List, [], ◌∷◌, length, map, Option, Some, None, Result, Ok, Err, refl, ap, ◌∙◌, subst}
 use Rattle.plc_base.specs.Limits.{most}
 use Rattle.plc_base.specs.declared.limits.What1.TheVariants as limits
-use Rattle.plc_lang.specs.Allocation.{is_new}
 use Rattle.plc_lang.specs.declared.syntax.Op.{Op}
 use Rattle.plc_lang.specs.declared.syntax.Primitive.{Primitive}
-use Rattle.plc_lang.specs.Statements.{Statement, If, Choose, Loop, Statements, Then, Blocks, And}
-use Rattle.plc_logic.specs.declared.clause.Outline.{Outline}
-use Rattle.plc_syntax.specs.Trees.{Text, Placed, FieldTree, PointerField, DataField, FunctionTree, Declares, WatchTree, UseHazard, UseEpoch, OneOf, OfThreads, GhostTree, Auxiliary, InitialTree, PrimitiveTree}
+use Rattle.plc_lang.specs.Statements.{If, Choose, Loop, Then, And}
+use Rattle.plc_syntax.specs.Trees.{Text, Placed, FieldTree, PointerField, DataField, FunctionTree, Declares, WatchTree, UseHazard, UseEpoch, OneOf, OfThreads, GhostTree, Auxiliary, InitialTree}
 use Rattle.plc_syntax.specs.Trees.{StatementTree, PrimitiveStatement, AtomicStatement, CallStatement, IfStatement, ChooseStatement, LoopStatement, BreakStatement, ReturnStatement, LabelStatement}
 use Rattle.plc_syntax.specs.Trees.{BlockTree, NoStatement, Then as ThenStatement, ElseTree, NoElse, ElseBlock, OrTree, NoOr, OrBlock, OpTree, Operates, OutlineTree, FileTree}
-use Rattle.plc_syntax.proofs.Unplaced.{unplaced, unplaced_by, unplaced_maybe, unplaced_names, unplaced_label, unplaced_field, unplaced_function, unplaced_watch, unplaced_ghost, unplaced_initial, unplaced_sets}
+use Rattle.plc_syntax.proofs.Unplaced.{unplaced, unplaced_by, unplaced_maybe, unplaced_label, unplaced_field, unplaced_function, unplaced_watch, unplaced_ghost, unplaced_initial, unplaced_sets}
 use Rattle.plc_syntax.proofs.Unplaced.{unplaced_primitive, unplaced_statement, unplaced_block, unplaced_else, unplaced_ors, unplaced_op, unplaced_outline, unplaced_file}
 use Rattle.plc_scope.specs.declared.fault.ParseFault.{ParseFault}
 use Rattle.plc_scope.specs.declared.fault.ParseFault.TheVariants as faults
 use Rattle.plc_scope.specs.declared.scope.Scope.{Scope}
-use Rattle.plc_scope.specs.declared.binding.Binding.{Binding}
 use Rattle.plc_scope.specs.declared.binding.Binding.TheVariants as bindings
-use Rattle.plc_scope.specs.Scope.{◌>>=◌, first_scope, without_locals, as_protecting, as_without_pointer}
+use Rattle.plc_scope.specs.Scope.{◌>>=◌, first_scope, declared_parameter, as_protecting, as_without_pointer}
 use Rattle.plc_scope.specs.Limits.{within_limit, stands_at}
 use Rattle.plc_scope.specs.Primitives.{primitive_means, initial_means}
 use Rattle.plc_scope.proofs.Alike.{Alike, Same, same, go_on, then_alike, then_same, limit_same, refused_same, declared_same, declared_label_same, declared_local_same, declared_parameter_same}
 use Rattle.plc_scope.proofs.Alike.{name_same, condition_same, primitive_same, initial_same, call_same}
+use Rattle.plc_outparse.specs.Meaning.{in_turn}
 use Rattle.plc_outparse.proofs.Alike.{outline_same}
-use Rattle.plc_parse.specs.declared.unit.Unit.{Unit as FileUnit}
-use Rattle.plc_parse.specs.Meaning.{counted, forms_mean, atomic_means, initials_mean, count_of, allocates, label_means, during_means, statement_means, statements_mean, else_means, or_means, field_means, shared_means}
-use Rattle.plc_parse.specs.Meaning.{function_means, value_means, values_mean, ghost_means, listed, watch_means, init_means, parameters_mean, local_means, locals_mean, placed_op_means, op_means, line_at, outlined_means, retire, file_means}
+use Rattle.plc_parse.specs.Meaning.{counted, forms_mean, count_of, allocates, label_means, during_means, statement_means, statements_mean, else_means, or_means, field_means, shared_means}
+use Rattle.plc_parse.specs.Meaning.{function_means, value_means, ghost_means, listed, watch_means, init_means, local_means, placed_op_means, op_means, line_at, outlined_means, retire, file_means}
 use Rattle.plc_print.specs.Laws.{statement_without_lines, without_lines, blocks_without_lines, op_without_lines, SameUpToLines}
 use Rattle.plc_print.proofs.OutlineLines.{same_outline}
 
@@ -37,7 +34,7 @@ some_counted n has_new a b (Some k) = same (counted n has_new a (Ok (Some k)))
 
 counted_same : (n : ℕ) (has_new : Bool) (a b : ℕ) (r q : Result (Option Primitive) ParseFault) → Same r q → Same (counted n has_new a r) (counted n has_new b q)
 counted_same n has_new a b (Ok x) (Ok y) h = subst (λ z. Same (counted n has_new a (Ok x)) (counted n has_new b (Ok z))) h (some_counted n has_new a b x)
-counted_same n has_new a b (Err e) (Err f) h = refused_same _ (stands_at a e) (stands_at b f) (n == most limits.Prims) e f (faults.Limit limits.Prims (most limits.Prims + 1))
+counted_same n has_new a b (Err e) (Err f) h = refused_same (Option Primitive) (stands_at a e) (stands_at b f) (n == most limits.Prims) e f (faults.Limit limits.Prims (most limits.Prims + 1))
 counted_same n has_new a b (Ok x) (Err f) h = absurd h
 counted_same n has_new a b (Err e) (Ok y) h = absurd h
 
@@ -119,22 +116,18 @@ shared_same s n name = limit_same n limits.Shared _ _ (then_same _ _ _ _ (declar
 function_same : (s : Scope) (n : ℕ) (f : FunctionTree) → Same (function_means s n f) (function_means s n (unplaced_function f))
 function_same s n (Declares name takes_pointer) = limit_same n limits.Calls _ _ (then_same _ _ _ _ (declared_same s name _) (λ t. refl))
 
-value_same : (s : Scope) (g k : ℕ) (name : Placed Text) → Same (value_means s g k name) (value_means s g k (unplaced name))
-value_same s g k name = then_same _ _ _ _ (declared_same s name _) (λ t. same (within_limit k limits.Values (Ok (length s.names.names, t))))
-
-values_same : (s : Scope) (g k : ℕ) (names : List (Placed Text)) → Same (values_mean s g k names) (values_mean s g k (unplaced_names names))
-values_same s g k [] = refl
-values_same s g k (name ∷ names) = then_same _ _ _ _ (value_same s g k name) (λ first. then_same _ _ _ _ (values_same first.1 g (k + 1) names) (λ others. refl))
-
-ghost_same : (s : Scope) (n : ℕ) (g : GhostTree) → Same (ghost_means s n g) (ghost_means s n (unplaced_ghost g))
-ghost_same s n (Auxiliary name OfThreads) = limit_same n limits.Ghosts _ _ (then_same _ _ _ _ (declared_same s name _) (λ t. refl))
-ghost_same s n (Auxiliary name (OneOf v vs)) = limit_same n limits.Ghosts _ _ (then_same _ _ _ _ (declared_same s name _) (λ t.
-    then_same _ _ _ _ (value_same t n 0 v) (λ first. then_same _ _ _ _ (values_same first.1 n 1 vs) (λ others. refl))))
+value_same : (g : ℕ) (s : Scope) (k : ℕ) (name : Placed Text) → Same (value_means g s k name) (value_means g s k (unplaced name))
+value_same g s k name = then_same _ _ _ _ (declared_same s name _) (λ t. same (within_limit k limits.Values (Ok (length s.names.names, t))))
 
 listed_same : {X Y : Type 0} (means : Scope → ℕ → X → Result (Y × Scope) ParseFault) (bare : X → X) → ((s : Scope) (n : ℕ) (x : X) → Same (means s n x) (means s n (bare x)))
     → (s : Scope) (n : ℕ) (xs : List X) → Same (listed means s n xs) (listed means s n (map bare xs))
 listed_same means bare one s n [] = refl
 listed_same means bare one s n (x ∷ xs) = then_same _ _ _ _ (one s n x) (λ first. then_same _ _ _ _ (listed_same means bare one first.1 (n + 1) xs) (λ others. refl))
+
+ghost_same : (s : Scope) (n : ℕ) (g : GhostTree) → Same (ghost_means s n g) (ghost_means s n (unplaced_ghost g))
+ghost_same s n (Auxiliary name OfThreads) = limit_same n limits.Ghosts _ _ (then_same _ _ _ _ (declared_same s name _) (λ t. refl))
+ghost_same s n (Auxiliary name (OneOf v vs)) = limit_same n limits.Ghosts _ _ (then_same _ _ _ _ (declared_same s name _) (λ t.
+    then_same _ _ _ _ (listed_same (value_means n) unplaced (value_same n) t 0 (v ∷ vs)) (λ values. refl)))
 
 watch_same : (s : Scope) (w : Option WatchTree) → Same (watch_means s w) (watch_means s (unplaced_maybe unplaced_watch w))
 watch_same s None = refl
@@ -147,17 +140,15 @@ init_same s (Some is) = forms_same (initial_means s) unplaced_initial (initial_s
 
 -- ---- operations
 
-parameters_same : (s : Scope) (names : List (Placed Text)) → Same (parameters_mean s names) (parameters_mean s (unplaced_names names))
-parameters_same s [] = refl
-parameters_same s (name ∷ names) = then_same _ _ _ _ (declared_parameter_same s name) (λ t. parameters_same t names)
+-- trees one after the other
+in_turn_same : {X : Type 0} (step : Scope → X → Result Scope ParseFault) (bare : X → X) → ((s : Scope) (x : X) → Same (step s x) (step s (bare x)))
+    → (s : Scope) (xs : List X) → Same (in_turn step s xs) (in_turn step s (map bare xs))
+in_turn_same step bare one s [] = refl
+in_turn_same step bare one s (x ∷ xs) = then_same _ _ _ _ (one s x) (λ t. in_turn_same step bare one t xs)
 
 local_same : (s : Scope) (l : FieldTree) → Same (local_means s l) (local_means s (unplaced_field l))
 local_same s (PointerField name) = declared_local_same s name true
 local_same s (DataField name) = declared_local_same s name false
-
-locals_same : (s : Scope) (ls : List FieldTree) → Same (locals_mean s ls) (locals_mean s (map unplaced_field ls))
-locals_same s [] = refl
-locals_same s (l ∷ ls) = then_same _ _ _ _ (local_same s l) (λ t. locals_same t ls)
 
 -- a form past the limit has no meaning, whatever it would have
 limit_alike : {A B : Type 0} (S : A → B → Type 0) (n : ℕ) (r : Result A ParseFault) (q : Result B ParseFault) → Alike S r q → Alike S (within_limit n limits.Ops r) (within_limit n limits.Ops q)
@@ -173,7 +164,7 @@ module _ (lines others : List ℕ) where
     where
       by : (t : OpTree) → Alike (Lineless op_without_lines) (op_means lines (line_at lines o.at) s n t) (op_means others (line_at others 0) s n (unplaced_op t))
       by (Operates name parameters locals body) = limit_alike (Lineless op_without_lines) n _ _ (
-          then_alike _ _ _ _ _ (declared_same s name bindings.Taken) (λ t. then_alike _ _ _ _ _ (parameters_same t parameters) (λ p. then_alike _ _ _ _ _ (locals_same p locals) (λ l.
+          then_alike _ _ _ _ _ (declared_same s name bindings.Taken) (λ t. then_alike _ _ _ _ _ (in_turn_same declared_parameter unplaced declared_parameter_same t parameters) (λ p. then_alike _ _ _ _ _ (in_turn_same local_means unplaced_field local_same p locals) (λ l.
           after_lineless without_lines _ _ _ _ _ (block_alike lines others l false body) (λ x y u h.
           (ap (λ b. record { name = length s.names.names; locals = l.locals; body = b; line = 0 }) h, refl))))))
 

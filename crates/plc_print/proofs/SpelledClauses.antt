@@ -15,7 +15,7 @@ use Rattle.plc_scope.specs.declared.scope.Scope.{Scope}
 use Rattle.plc_scope.specs.declared.binding.Binding.{Binding}
 use Rattle.plc_scope.specs.declared.binding.Binding.TheVariants.{Taken, Shared, PointerField, DataField, Function, Auxiliary, Value, LocalOnly}
 use Rattle.plc_scope.specs.Limits.{stands_at}
-use Rattle.plc_scope.specs.Scope.{◌>>=◌, known, if_fits, if_new, with_last}
+use Rattle.plc_scope.specs.Scope.{if_new, with_last}
 use Rattle.plc_scope.proofs.Finds.{made_is}
 use Rattle.plc_scope.proofs.Holds.{Has, next, weaker, unless, if_ok, both_err}
 use Rattle.plc_logic.specs.declared.clause.Base.{Base}
@@ -24,14 +24,13 @@ use Rattle.plc_logic.specs.declared.clause.Term.{Term}
 use Rattle.plc_logic.specs.declared.clause.Sort.{Sort}
 use Rattle.plc_logic.specs.declared.clause.Sort.TheVariants as sorts
 use Rattle.plc_logic.specs.declared.clause.Literal.{Literal}
-use Rattle.plc_logic.specs.declared.clause.Literal.TheVariants.{Same, Retired, Marked}
 use Rattle.plc_logic.specs.declared.clause.Clause.{Clause}
 use Rattle.plc_outparse.specs.declared.kind.Kind.{Kind}
 use Rattle.plc_outparse.specs.declared.kind.Kind.TheVariants as kinds
 use Rattle.plc_syntax.proofs.Unplaced.{unplaced_by, unplaced_place, unplaced_term, unplaced_flag, unplaced_literal, unplaced_bound, unplaced_clause}
 use Rattle.plc_outparse.specs.Reach.{Reach, binding_kind, local_kind, kind_found, declared_kind, kind_or_bound, kind_of, kind_at, as_base, base_at, as_term, as_pointer, as_field, as_pointer_field}
 use Rattle.plc_logic.specs.Sorts.{same_sort}
-use Rattle.plc_outparse.specs.Meaning.{in_turn, wanted_of, me_means, term_means, sort_place, if_same_sort, second_means, pointer_means, flag_means, literal_means, counted, literal_step, none_bound, if_free, bound_with, bound_means, reach, clause_means}
+use Rattle.plc_outparse.specs.Meaning.{in_turn, wanted_of, me_means, term_means, sort_place, second_means, pointer_means, flag_means, literal_means, counted, literal_step, none_bound, if_free, bound_with, bound_means, reach, clause_means}
 use Rattle.plc_print.specs.Outlines.{bare, base_name, term_tree, pointer_place, flag_literal, literal_tree, bound_tree, claims_tree, clause_tree}
 use Rattle.plc_print.proofs.SpelledNames.{IsBound, Bound, Ends, from_number, number_named, place_found, fits_found, known_found}
 

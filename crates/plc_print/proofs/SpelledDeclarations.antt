@@ -6,18 +6,18 @@ use Rattle.plc_lang.specs.declared.syntax.File.{File}
 use Rattle.plc_lang.specs.declared.syntax.Field.{Field}
 use Rattle.plc_lang.specs.declared.syntax.Func.{Func}
 use Rattle.plc_lang.specs.declared.syntax.Ghost.{Ghost}
-use Rattle.plc_syntax.specs.Trees.{Text, Placed, FieldTree, PointerField as PointerFieldTree, DataField as DataFieldTree, FunctionTree, Declares as FunctionDeclares, GhostTree, Auxiliary as AuxiliaryTree, OneOf, OfThreads}
+use Rattle.plc_syntax.specs.Trees.{Text, Placed, FieldTree, PointerField as PointerFieldTree, DataField as DataFieldTree, FunctionTree, Declares as FunctionDeclares, GhostTree, Auxiliary as AuxiliaryTree, GhostKindTree, OneOf, OfThreads}
 use Rattle.plc_scope.specs.declared.fault.ParseFault.{ParseFault}
 use Rattle.plc_scope.specs.declared.scope.Scope.{Scope}
 use Rattle.plc_scope.specs.declared.binding.Binding.TheVariants.{Shared, PointerField, DataField, Function, Auxiliary, Value}
 use Rattle.plc_scope.specs.Scope.{declared}
-use Rattle.plc_parse.specs.Meaning.{field_means, shared_means, function_means, value_means, values_mean, ghost_means, listed}
+use Rattle.plc_parse.specs.Meaning.{field_means, shared_means, function_means, value_means, ghost_means, listed}
 use Rattle.plc_scope.proofs.Holds.{Has, next, unless}
 use Rattle.plc_print.specs.Canonical.{declaration_tree, ghost_kind}
 use Rattle.plc_lang.specs.Names.{name_at, values_of}
-use Rattle.plc_syntax.proofs.Unplaced.{unplaced, unplaced_names, unplaced_field, unplaced_function, unplaced_ghost}
+use Rattle.plc_syntax.proofs.Unplaced.{unplaced, unplaced_field, unplaced_function, unplaced_ghost}
 use Rattle.plc_print.specs.Outlines.{bare}
-use Rattle.plc_print.proofs.SpelledNames.{Ends, onward}
+use Rattle.plc_print.proofs.SpelledNames.{Ends}
 use Rattle.plc_print.proofs.GrowingScopes.{Goes, goes_nowhere, goes_on, ends_before, Declares, declared_found, goes_by, declared_name}
 
 -- what was read leaves the locals and is spelled by the tree
@@ -126,23 +126,28 @@ module _ (file : File) where
   abbrev ValueThere : ℕ → ℕ → ℕ → Type 0
   ValueThere g k y = slice_get (values_of (slice_get file.ghosts g)) k ≡ Some y
 
-  abbrev OneValue : Scope → ℕ → ℕ → Placed Text → ℕ × Scope → Type 0
-  OneValue s g k name x = ValueThere g k x.0 → Spelled file (λ n. bare (name_at file n)) s (unplaced name) x.0 x.1
+  abbrev OneValue : ℕ → Scope → ℕ → Placed Text → ℕ × Scope → Type 0
+  OneValue g = OneRead file (Placed Text) ℕ (value_means g) unplaced (λ n. bare (name_at file n)) (ValueThere g)
 
-  value_declared : (s : Scope) (g k : ℕ) (name : Placed Text) → Has (OneValue s g k name) (value_means s g k name)
-  value_declared s g k name =
-      next (Declares file name.value (Value g k) s) (OneValue s g k name) (declared s name (Value g k)) _ (declared_found file s name (Value g k)) (λ t d.
-      unless (OneValue s g k name) (k == most limits.Values) _ _ (λ less there. record { goes = goes_by file s t name.value (Value g k) d (λ b. there); locals = d.locals; tree = λ e. ap (λ (m : Text). bare m) (declared_name file s t name.value (Value g k) d e) }))
+  value_declared : (g : ℕ) (s : Scope) (k : ℕ) (name : Placed Text) → Has (OneValue g s k name) (value_means g s k name)
+  value_declared g s k name =
+      next (Declares file name.value (Value g k) s) (OneValue g s k name) (declared s name (Value g k)) _ (declared_found file s name (Value g k)) (λ t d.
+      unless (OneValue g s k name) (k == most limits.Values) _ _ (λ less there. record { goes = goes_by file s t name.value (Value g k) d (λ b. there); locals = d.locals; tree = λ e. ap (λ (m : Text). bare m) (declared_name file s t name.value (Value g k) d e) }))
 
-  abbrev ManyValues : Scope → ℕ → ℕ → List (Placed Text) → List ℕ × Scope → Type 0
-  ManyValues s g k names r = AllThere (ValueThere g) k r.0 → Spelled file (map (λ n. bare (name_at file n))) s (unplaced_names names) r.0 r.1
+  abbrev ManyValues : ℕ → Scope → ℕ → List (Placed Text) → List ℕ × Scope → Type 0
+  ManyValues g = ManyRead file (Placed Text) ℕ (value_means g) unplaced (λ n. bare (name_at file n)) (ValueThere g)
 
-  values_declared : (s : Scope) (g k : ℕ) (names : List (Placed Text)) → Has (ManyValues s g k names) (values_mean s g k names)
-  values_declared s g k [] = λ there. none_spelled file (λ n. bare (name_at file n)) s
-  values_declared s g k (name ∷ names) =
-      next (OneValue s g k name) (ManyValues s g k (name ∷ names)) (value_means s g k name) _ (value_declared s g k name) (λ first f.
-      next (ManyValues first.1 g (k + 1) names) (ManyValues s g k (name ∷ names)) (values_mean first.1 g (k + 1) names) _ (values_declared first.1 g (k + 1) names) (λ others h there.
-      one_then file (λ n. bare (name_at file n)) s first.1 others.1 (unplaced name) (unplaced_names names) first.0 others.0 (f (first_there (ValueThere g) k first.0 others.0 there)) (h (others_there (ValueThere g) k first.0 others.0 there))))
+  values_declared : (g : ℕ) (s : Scope) (k : ℕ) (names : List (Placed Text)) → Has (ManyValues g s k names) (listed (value_means g) s k names)
+  values_declared g = listed_found file (Placed Text) ℕ (value_means g) unplaced (λ n. bare (name_at file n)) (ValueThere g) (value_declared g)
+
+  -- what a field with these values' names holds
+  abbrev kind_named : List (Placed Text) → GhostKindTree
+  kind_named [] = OfThreads
+  kind_named (n ∷ ns) = OneOf n ns
+
+  kind_spelled : (vs : List ℕ) → ghost_kind file vs ≡ kind_named (map (λ n. bare (name_at file n)) vs)
+  kind_spelled [] = refl
+  kind_spelled (v ∷ vs) = refl
 
   abbrev pub GhostThere : ℕ → Ghost → Type 0
   GhostThere n y = slice_get file.ghosts n ≡ Some y
@@ -162,15 +167,12 @@ module _ (file : File) where
       }))
   ghost_declared s n (AuxiliaryTree name (OneOf v vs)) = unless (OneGhost s n (AuxiliaryTree name (OneOf v vs))) (n == most limits.Ghosts) _ _ (λ less.
       next (Declares file name.value (Auxiliary n false) s) _ (declared s name (Auxiliary n false)) _ (declared_found file s name (Auxiliary n false)) (λ t d.
-      next (OneValue t n 0 v) _ (value_means t n 0 v) _ (value_declared t n 0 v) (λ first f.
-      next (ManyValues first.1 n 1 vs) _ (values_mean first.1 n 1 vs) _ (values_declared first.1 n 1 vs) (λ others h there.
-      let one = f (ap (λ (o : Option Ghost). slice_get (values_of o) 0) there) in
-      let many = h (λ j y e. ap (λ (o : Option Ghost). slice_get (values_of o) (1 + j)) there ∙ onward first.0 others.0 j ∙ e) in
+      next (ManyValues n t 0 (v ∷ vs)) _ (listed (value_means n) t 0 (v ∷ vs)) _ (values_declared n t 0 (v ∷ vs)) (λ values h there.
+      let many = h (λ j y e. let same : 0 + j ≡ j = omega arith in ap (λ (o : Option Ghost). slice_get (values_of o) (0 + j)) there ∙ ap (slice_get values.0) same ∙ e) in
       let declares = goes_by file s t name.value (Auxiliary n false) d (λ b. ap (option_map (λ (x : Ghost). x.name)) there) in
       record {
-        goes = goes_on file s t others.1 declares (goes_on file t first.1 others.1 one.goes many.goes);
-        locals = many.locals ∙ one.locals ∙ d.locals;
-        tree = λ e.
-            let middle = ends_before file first.1 others.1 many.goes e in
-            rw (declared_name file s t name.value (Auxiliary n false) d (ends_before file t first.1 one.goes middle), one.tree middle, many.tree e) refl;
-      }))))
+        goes = goes_on file s t values.1 declares many.goes;
+        locals = many.locals ∙ d.locals;
+        tree = λ e. ap₂ (λ (m : Text) (k : GhostKindTree). AuxiliaryTree (bare m) k)
+            (declared_name file s t name.value (Auxiliary n false) d (ends_before file t values.1 many.goes e)) (kind_spelled values.0 ∙ ap kind_named (many.tree e));
+      })))

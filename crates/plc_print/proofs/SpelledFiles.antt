@@ -1,6 +1,6 @@
 -- A file that is read is spelled by its normal tree without places, and the normal tree means the same unit.
 use Rattle.std.proofs.Common.{◌≡◌, ℕ, zero, suc, ◌+◌, true, false, Option, Some, None, Result, Ok, Err, List, [], ◌∷◌}
-use Rattle.std.proofs.Common.{map, filter, slice_get, refl, sym, ap, ◌∙◌, subst, arith}
+use Rattle.std.proofs.Common.{map, slice_get, refl, ap, ◌∙◌, subst, arith}
 use Rattle.plc_auto.specs.declared.observer.Observer.{Observer}
 use Rattle.plc_lang.specs.declared.syntax.File.{File}
 use Rattle.plc_lang.specs.declared.syntax.Field.{Field}
@@ -10,9 +10,9 @@ use Rattle.plc_lang.specs.declared.syntax.Op.{Op}
 use Rattle.plc_lang.specs.declared.syntax.Primitive.{Primitive}
 use Rattle.plc_syntax.specs.Trees.{Text, Placed, FieldTree, FunctionTree, WatchTree, UseHazard, UseEpoch, GhostTree}
 use Rattle.plc_syntax.specs.Trees.{InitialTree, OpTree, OutlineTree, FileTree}
-use Rattle.plc_syntax.proofs.Unplaced.{unplaced, unplaced_by, unplaced_maybe, unplaced_names, unplaced_field}
+use Rattle.plc_syntax.proofs.Unplaced.{unplaced, unplaced_by, unplaced_maybe, unplaced_field}
 use Rattle.plc_syntax.proofs.Unplaced.{unplaced_function, unplaced_watch, unplaced_ghost, unplaced_initial}
-use Rattle.plc_syntax.proofs.Unplaced.{unplaced_sets, unplaced_op, unplaced_outline, unplaced_file}
+use Rattle.plc_syntax.proofs.Unplaced.{unplaced_sets, unplaced_file}
 use Rattle.plc_scope.specs.declared.fault.ParseFault.{ParseFault}
 use Rattle.plc_scope.specs.declared.scope.Scope.{Scope}
 use Rattle.plc_scope.specs.declared.binding.Binding.{Binding}
@@ -22,13 +22,13 @@ use Rattle.plc_scope.specs.Primitives.{initial_means}
 use Rattle.plc_logic.specs.declared.clause.Outline.{Outline}
 use Rattle.plc_parse.specs.declared.unit.Unit.{Unit as FileUnit}
 use Rattle.plc_parse.specs.Meaning.{listed, field_means, shared_means, function_means, ghost_means, watch_means}
-use Rattle.plc_parse.specs.Meaning.{initials_mean, init_means, placed_op_means, outlined_means, retire, file_means}
+use Rattle.plc_parse.specs.Meaning.{forms_mean, init_means, placed_op_means, outlined_means, retire, file_means}
 use Rattle.plc_scope.proofs.Holds.{Has, has_along, next}
 use Rattle.plc_print.specs.Canonical.{watch_tree, initial_tree, init_tree, canonical_tree}
 use Rattle.plc_lang.specs.Names.{name_at}
 use Rattle.plc_print.specs.Outlines.{bare}
-use Rattle.plc_print.proofs.NormalTrees.{normal_starts, normal_op, normal_outline, normal_file}
-use Rattle.plc_print.proofs.Steps.{after, along}
+use Rattle.plc_print.proofs.NormalTrees.{normal_starts, normal_outline, normal_file}
+use Rattle.plc_print.proofs.Steps.{after, held}
 use Rattle.plc_print.proofs.SpelledNames.{Bound, IsBound, Ends, number_named, names_found}
 use Rattle.plc_print.proofs.SpelledPrimitives.{IsInitial, initial_found}
 use Rattle.plc_print.proofs.GrowingScopes.{ends_before, declared_found}
@@ -80,7 +80,7 @@ module _ (file : File) (s : Scope) (bound : Bound file s) where
     init_found None = record { tree = λ e. refl; again = refl }
     init_found (Some []) = record { tree = λ e. refl; again = refl }
     init_found (Some (i ∷ is)) =
-        along (Initials (i ∷ is)) (InitRead (Some (i ∷ is))) (initials_mean s (i ∷ is)) _
+        held (Initials (i ∷ is)) (InitRead (Some (i ∷ is))) (forms_mean (initial_means s) 0 false (i ∷ is))
         (forms_found (initial_means s) unplaced_initial (λ i. true) (IsInitial file s bound) (Ends file s) (initial_tree file) (λ i h. absurd h) (λ i k h. (refl, h)) (initial_found file s bound none) 0 false (i ∷ is)) (λ ks f e. record {
           tree = λ e. with_primitives ks (unplaced_by unplaced_initial i) (unplaced_sets is) (f.tree e ∙ ap unplaced_sets (all_stay (i ∷ is)));
           again = e;

@@ -6,7 +6,6 @@ use Rattle.plc_lang.specs.declared.syntax.Primitive.{Primitive}
 use Rattle.plc_syntax.specs.Trees.{Placed}
 use Rattle.plc_syntax.proofs.Unplaced.{unplaced_by}
 use Rattle.plc_scope.specs.declared.fault.ParseFault.{ParseFault}
-use Rattle.plc_scope.specs.declared.fault.ParseFault.TheVariants as faults
 use Rattle.plc_lang.specs.Allocation.{is_new}
 use Rattle.plc_scope.specs.Limits.{stands_at}
 use Rattle.plc_parse.specs.Meaning.{counted, count_of, allocates, before, forms_mean}

@@ -222,15 +222,15 @@ module _ (file : File) where
       let role = role_of s n.value in
       let is = role_is s n.value bound in
       record {
-        any = known_found (Ends s) (RoleIs s.locals n) role n.at is;
-        pointer = needed_found as_pointer (Ends s) (RoleIs s.locals n) (λ q. variable_name file s.locals q ≡ n.value) role n.at is (as_pointer_is s.locals n.value);
-        pointer_local = needed_found as_pointer_local (Ends s) (RoleIs s.locals n) (λ q. pointer_name file s.locals q ≡ n.value) role n.at is (as_pointer_local_is s.locals n.value);
-        data_local = needed_found as_data (Ends s) (RoleIs s.locals n) (λ x. data_name file s.locals x ≡ n.value) role n.at is (as_data_is s.locals n.value);
-        pointer_field = needed_found as_pointer_field (Ends s) (RoleIs s.locals n) (λ f. field_name file f ≡ n.value) role n.at is (as_pointer_field_is s.locals n.value);
-        data_field = needed_found as_data_field (Ends s) (RoleIs s.locals n) (λ f. field_name file f ≡ n.value) role n.at is (as_data_field_is s.locals n.value);
-        function = needed_found as_function (Ends s) (RoleIs s.locals n) (λ f. function_name file f.0 ≡ n.value) role n.at is (as_function_is s.locals n.value);
-        protecting = needed_found as_protecting (Ends s) (RoleIs s.locals n) (λ f. function_name file f ≡ n.value) role n.at is (as_protecting_is s.locals n.value);
-        without_pointer = needed_found as_without_pointer (Ends s) (RoleIs s.locals n) (λ f. function_name file f ≡ n.value) role n.at is (as_without_pointer_is s.locals n.value);
-        auxiliary = needed_found as_auxiliary (Ends s) (RoleIs s.locals n) (λ g. auxiliary_name file g.0 ≡ n.value) role n.at is (as_auxiliary_is s.locals n.value);
-        value = λ g. needed_found (as_value_of g) (Ends s) (RoleIs s.locals n) (λ v. value_name file g v ≡ n.value) role n.at is (as_value_is g s.locals n.value);
+        any = known_found (Ends s) (RoleIs s.locals n.value) role n.at is;
+        pointer = needed_found as_pointer (Ends s) (RoleIs s.locals n.value) (λ q. variable_name file s.locals q ≡ n.value) role n.at is (as_pointer_is s.locals n.value);
+        pointer_local = needed_found as_pointer_local (Ends s) (RoleIs s.locals n.value) (λ q. pointer_name file s.locals q ≡ n.value) role n.at is (as_pointer_local_is s.locals n.value);
+        data_local = needed_found as_data (Ends s) (RoleIs s.locals n.value) (λ x. data_name file s.locals x ≡ n.value) role n.at is (as_data_is s.locals n.value);
+        pointer_field = needed_found as_pointer_field (Ends s) (RoleIs s.locals n.value) (λ f. field_name file f ≡ n.value) role n.at is (as_pointer_field_is s.locals n.value);
+        data_field = needed_found as_data_field (Ends s) (RoleIs s.locals n.value) (λ f. field_name file f ≡ n.value) role n.at is (as_data_field_is s.locals n.value);
+        function = needed_found as_function (Ends s) (RoleIs s.locals n.value) (λ f. function_name file f.0 ≡ n.value) role n.at is (as_function_is s.locals n.value);
+        protecting = needed_found as_protecting (Ends s) (RoleIs s.locals n.value) (λ f. function_name file f ≡ n.value) role n.at is (as_protecting_is s.locals n.value);
+        without_pointer = needed_found as_without_pointer (Ends s) (RoleIs s.locals n.value) (λ f. function_name file f ≡ n.value) role n.at is (as_without_pointer_is s.locals n.value);
+        auxiliary = needed_found as_auxiliary (Ends s) (RoleIs s.locals n.value) (λ g. auxiliary_name file g.0 ≡ n.value) role n.at is (as_auxiliary_is s.locals n.value);
+        value = λ g. needed_found (as_value_of g) (Ends s) (RoleIs s.locals n.value) (λ v. value_name file g v ≡ n.value) role n.at is (as_value_is g s.locals n.value);
       }

@@ -1,5 +1,5 @@
 -- Operations that are read are spelled by their normal tree, without places and with parameters before other locals, and the normal tree means the same.
-use Rattle.std.proofs.Common.{◌≡◌, ◌==◌, ℕ, ◌+◌, Bool, true, false, if◌then◌else◌, Option, Some, None, Result, Ok, Err, List, [], ◌∷◌, ◌++◌, map, filter, slice_get, length, refl, sym, ap, ap₂, ◌∙◌, append_assoc, append-nil}
+use Rattle.std.proofs.Common.{◌≡◌, ◌==◌, ℕ, ◌+◌, Bool, true, false, if◌then◌else◌, Option, Some, None, Ok, Err, List, [], ◌∷◌, ◌++◌, map, filter, slice_get, length, refl, sym, ap, ap₂, ◌∙◌, append_assoc, append-nil}
 use Rattle.std.proofs.lemmas.List.{map-append}
 use Rattle.std.proofs.lemmas.List.Elements.{filter-append}
 use Rattle.plc_base.specs.Limits.{most}
@@ -11,17 +11,17 @@ use Rattle.plc_lang.specs.declared.syntax.Local.{Local}
 use Rattle.plc_lang.specs.declared.syntax.Op.{Op}
 use Rattle.plc_lang.specs.Statements.{Statements}
 use Rattle.plc_syntax.specs.Trees.{Text, Placed, FieldTree, PointerField as PointerFieldTree, DataField as DataFieldTree, BlockTree, OpTree, Operates}
-use Rattle.plc_scope.specs.declared.fault.ParseFault.{ParseFault}
 use Rattle.plc_scope.specs.declared.fault.ParseFault.TheVariants as faults
 use Rattle.plc_scope.specs.declared.scope.Scope.{Scope}
 use Rattle.plc_scope.specs.declared.binding.Binding.TheVariants.{Taken, LocalOnly}
-use Rattle.plc_scope.specs.Scope.{◌>>=◌, declared, has_local, may_name_local, local_number, with_local, without_locals, declared_local, declared_parameter}
-use Rattle.plc_parse.specs.Meaning.{line_at, statements_mean, parameters_mean, local_means, locals_mean, listed, op_means, placed_op_means}
+use Rattle.plc_scope.specs.Scope.{declared, has_local, may_name_local, local_number, with_local, without_locals, declared_local, declared_parameter}
+use Rattle.plc_outparse.specs.Meaning.{in_turn}
+use Rattle.plc_parse.specs.Meaning.{line_at, statements_mean, local_means, listed, op_means, placed_op_means}
 use Rattle.plc_scope.proofs.Holds.{Has, next, weaker, unless}
 use Rattle.plc_print.specs.Canonical.{declaration_tree, is_declared, op_tree}
 use Rattle.plc_lang.specs.Names.{name_at}
 use Rattle.plc_syntax.specs.Forms.{at_place}
-use Rattle.plc_syntax.proofs.Unplaced.{unplaced, unplaced_by, unplaced_names, unplaced_field, unplaced_op}
+use Rattle.plc_syntax.proofs.Unplaced.{unplaced_by, unplaced_names, unplaced_field, unplaced_op}
 use Rattle.plc_print.specs.Outlines.{bare}
 use Rattle.plc_print.proofs.NormalTrees.{normal_op}
 use Rattle.plc_print.proofs.Steps.{within, after, along}
@@ -131,20 +131,20 @@ module _ (file : File) where
             ∙ ap (λ (ns : List FieldTree). declarations_of s.locals ++ (ns ++ ds)) there;
       }
 
-  parameters_found : (s : Scope) (names : List (Placed Text)) → Has (LocalsRead s (unplaced_names names) []) (parameters_mean s names)
+  parameters_found : (s : Scope) (names : List (Placed Text)) → Has (LocalsRead s (unplaced_names names) []) (in_turn declared_parameter s names)
   parameters_found s [] = no_locals s
   parameters_found s (n ∷ ns) =
       next (Adds s n.value false true) _ (declared_parameter s n) _ (parameter_found s n) (λ t f.
-      weaker (LocalsRead t (unplaced_names ns) []) _ (parameters_mean t ns) (λ u g. parameter_then s t u n.value (unplaced_names ns) f g) (parameters_found t ns))
+      weaker (LocalsRead t (unplaced_names ns) []) _ (in_turn declared_parameter t ns) (λ u g. parameter_then s t u n.value (unplaced_names ns) f g) (parameters_found t ns))
 
-  locals_found : (s : Scope) (ls : List FieldTree) → Has (LocalsRead s [] (map unplaced_field ls)) (locals_mean s ls)
+  locals_found : (s : Scope) (ls : List FieldTree) → Has (LocalsRead s [] (map unplaced_field ls)) (in_turn local_means s ls)
   locals_found s [] = no_locals s
   locals_found s (PointerFieldTree n ∷ ls) =
       next (Adds s n.value true false) _ (declared_local s n true) _ (local_found s n true) (λ t f.
-      weaker (LocalsRead t [] (map unplaced_field ls)) _ (locals_mean t ls) (λ u g. declaration_then s t u n.value true (map unplaced_field ls) f g) (locals_found t ls))
+      weaker (LocalsRead t [] (map unplaced_field ls)) _ (in_turn local_means t ls) (λ u g. declaration_then s t u n.value true (map unplaced_field ls) f g) (locals_found t ls))
   locals_found s (DataFieldTree n ∷ ls) =
       next (Adds s n.value false false) _ (declared_local s n false) _ (local_found s n false) (λ t f.
-      weaker (LocalsRead t [] (map unplaced_field ls)) _ (locals_mean t ls) (λ u g. declaration_then s t u n.value false (map unplaced_field ls) f g) (locals_found t ls))
+      weaker (LocalsRead t [] (map unplaced_field ls)) _ (in_turn local_means t ls) (λ u g. declaration_then s t u n.value false (map unplaced_field ls) f g) (locals_found t ls))
 
   -- ---- operations
 
@@ -163,7 +163,7 @@ module _ (file : File) where
       read : Read file (λ (ls : List Local) (p : Op). op_tree file p) (op_means lines line s n (normal_op o)) s (unplaced_op (normal_op o)) r
 
     op_read : (s t : Scope) (n line : ℕ) (name : Placed Text) (ps : List (Placed Text)) (ls : List FieldTree) (body : BlockTree) (p l : Scope) (b : Statements × Scope) → Between s → (n == most limits.Ops) ≡ false
-        → Declares file name.value Taken s t → declared s name Taken ≡ Ok t → LocalsRead t (unplaced_names ps) [] p → parameters_mean t ps ≡ Ok p → LocalsRead p [] (map unplaced_field ls) l → locals_mean p ls ≡ Ok l → BlockRead file lines l false body b
+        → Declares file name.value Taken s t → declared s name Taken ≡ Ok t → LocalsRead t (unplaced_names ps) [] p → in_turn declared_parameter t ps ≡ Ok p → LocalsRead p [] (map unplaced_field ls) l → in_turn local_means p ls ≡ Ok l → BlockRead file lines l false body b
         → OneOp s n line (Operates name ps ls body) (record { name = length s.names.names; locals = l.locals; body = b.0; line = line }, without_locals b.1)
     op_read s t n line name ps ls body p l b before less d to_t f to_p g to_l h =
         let declares = goes_by file s t name.value Taken d (λ k. tt) in
@@ -189,8 +189,8 @@ module _ (file : File) where
     op_found : (s : Scope) (n line : ℕ) (o : OpTree) → Between s → Has (OneOp s n line o) (op_means lines line s n o)
     op_found s n line (Operates name ps ls body) before = unless (OneOp s n line (Operates name ps ls body)) (n == most limits.Ops) _ _ (λ less.
         along (Declares file name.value Taken s) _ (declared s name Taken) _ (declared_found file s name Taken) (λ t d to_t.
-        along (LocalsRead t (unplaced_names ps) []) _ (parameters_mean t ps) _ (parameters_found t ps) (λ p f to_p.
-        along (LocalsRead p [] (map unplaced_field ls)) _ (locals_mean p ls) _ (locals_found p ls) (λ l g to_l.
+        along (LocalsRead t (unplaced_names ps) []) _ (in_turn declared_parameter t ps) _ (parameters_found t ps) (λ p f to_p.
+        along (LocalsRead p [] (map unplaced_field ls)) _ (in_turn local_means p ls) _ (locals_found p ls) (λ l g to_l.
         let opened : Bound file l = g.goes.bound (f.goes.bound (d.bound before.bound tt)) in
         next (BlockRead file lines l false body) _ (statements_mean lines l false body) _ (block_found file lines l false body opened) (λ b h.
         op_read s t n line name ps ls body p l b before less d to_t f to_p g to_l h)))))

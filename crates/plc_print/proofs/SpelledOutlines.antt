@@ -25,11 +25,11 @@ use Rattle.plc_logic.specs.declared.clause.Site.TheVariants.{Over, At}
 use Rattle.plc_logic.specs.declared.clause.Item.{Item}
 use Rattle.plc_logic.specs.declared.clause.Outline.{Outline}
 use Rattle.plc_syntax.specs.Forms.{at_place}
-use Rattle.plc_syntax.proofs.Unplaced.{unplaced, unplaced_maybe, unplaced_names, unplaced_item, unplaced_clause, unplaced_outline}
+use Rattle.plc_syntax.proofs.Unplaced.{unplaced, unplaced_maybe, unplaced_names, unplaced_item, unplaced_outline}
 use Rattle.plc_outparse.specs.Reach.{declared_kind}
 use Rattle.plc_outparse.specs.Meaning.{in_turn, clause_means, op_named, op_at, label_named, with_op, label_at, if_same_op, label_step, labels_mean, Parts, item_step, depth_means, outline_means}
 use Rattle.plc_parse.specs.Meaning.{empty_outline, outlined_means}
-use Rattle.plc_print.specs.Outlines.{bare, clause_tree, invariant_tree, at_tree, locals_in_reach, site_locals, item_tree, depth_tree, unless_empty, outline_tree}
+use Rattle.plc_print.specs.Outlines.{bare, clause_tree, invariant_tree, at_tree, locals_in_reach, item_tree, depth_tree, unless_empty, outline_tree}
 use Rattle.plc_print.proofs.NormalTrees.{is_invariant, normal_items, normal_depth, normal_outline}
 use Rattle.plc_print.proofs.Steps.{within, after, along}
 use Rattle.plc_print.proofs.SpelledNames.{Bound, Ends, from_number, number_named, place_found, fits_found}
@@ -167,7 +167,7 @@ module _ (file : File) (s : Scope) (bound : Bound file s) where
         item = record { site = At ls.0; clause = k };
         is = refl;
         others = refl;
-        tree = λ e. f.tree e (clause_tree file (site_locals file (At ls.0)) k) ∙ ap (λ (o : Option ℕ). AtItem (unplaced n) (unplaced_names names) (clause_tree file (locals_in_reach file o) k)) f.stands
+        tree = λ e. f.tree e (clause_tree file (locals_in_reach file (op_of_site (labels_by_op file.ops) (At ls.0))) k) ∙ ap (λ (o : Option ℕ). AtItem (unplaced n) (unplaced_names names) (clause_tree file (locals_in_reach file o) k)) f.stands
             ∙ ap (AtItem (unplaced n) (unplaced_names names)) (g e);
         again = λ invariants. within (length st.1 == most limits.Items) (faults.Limit limits.Items (most limits.Items + 1)) _ _ below (after _ _ _ _ i (after _ _ _ _ j refl));
       })))

@@ -1,16 +1,16 @@
 -- Statements that are read are spelled by the normal tree of those they were read from, without places, and the normal tree means the same.
-use Rattle.std.proofs.Common.{◌≡◌, ℕ, ◌+◌, Bool, true, false, Option, Some, None, Result, Ok, List, map, refl, sym, ap, ap₂, ◌∙◌, subst}
+use Rattle.std.proofs.Common.{◌≡◌, ℕ, Bool, true, false, Option, Some, None, Result, Ok, List, refl, sym, ap, ap₂, ◌∙◌, subst}
 use Rattle.plc_lang.specs.declared.syntax.File.{File}
 use Rattle.plc_lang.specs.declared.syntax.Local.{Local}
 use Rattle.plc_lang.specs.declared.syntax.Cond.{Cond}
 use Rattle.plc_lang.specs.declared.syntax.Primitive.{Primitive}
-use Rattle.plc_lang.specs.Statements.{Statement, Atomic, Call, If, Choose, Loop, Break, Return, Label, Statements, Empty, Then, Blocks, NoBlock, And}
+use Rattle.plc_lang.specs.Statements.{Statement, If, Statements, Empty, Then, Blocks}
 use Rattle.plc_syntax.specs.Trees.{Placed, PrimitiveTree, StatementTree, PrimitiveStatement, AtomicStatement, CallStatement, IfStatement, ChooseStatement, LoopStatement, BreakStatement, ReturnStatement, LabelStatement, BlockTree, NoStatement, Then as ThenStatement, ElseTree, NoElse, ElseBlock, OrTree, NoOr, OrBlock}
 use Rattle.plc_syntax.proofs.Unplaced.{unplaced_primitive, unplaced_statement, unplaced_block, unplaced_else, unplaced_ors}
 use Rattle.plc_scope.specs.declared.fault.ParseFault.{ParseFault}
 use Rattle.plc_scope.specs.declared.scope.Scope.{Scope}
 use Rattle.plc_scope.specs.Primitives.{primitive_means, condition_means, call_means}
-use Rattle.plc_parse.specs.Meaning.{atomic_means, one_or_skip, line_at, label_means, during_means, statement_means, statements_mean, else_means, or_means}
+use Rattle.plc_parse.specs.Meaning.{atomic_means, one_or_skip, label_means, during_means, statement_means, statements_mean, else_means, or_means}
 use Rattle.plc_scope.proofs.Holds.{Has, next, weaker}
 use Rattle.plc_print.specs.Canonical.{primitive_tree, condition_tree, statement_tree, block_tree, blocks_tree}
 use Rattle.plc_print.specs.Outlines.{bare}

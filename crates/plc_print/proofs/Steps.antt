@@ -17,6 +17,11 @@ pub along : {A B : Type 0} (P : A → Type 0) (Q : B → Type 0) (r : Result A P
 along P Q (Ok x) f h k = k x h refl
 along P Q (Err e) f h k = tt
 
+-- an answer, and what is known of it
+pub held : {A : Type 0} (P Q : A → Type 0) (r : Result A ParseFault) → Has P r → ((x : A) → P x → r ≡ Ok x → Q x) → Has Q r
+held P Q (Ok x) h k = k x h refl
+held P Q (Err e) h k = tt
+
 -- what stands in a list stands in the other at the same place
 abbrev pub Within : {A : Type 0} → List A → List A → Type 0
 Within {A} xs ys = (i : ℕ) (x : A) → slice_get xs i ≡ Some x → slice_get ys i ≡ Some x

@@ -30,24 +30,21 @@ use Rattle.plc_lang.specs.Statements.{Statements, Empty, Then, Blocks, NoBlock, 
 use Rattle.plc_auto.specs.declared.observer.Observer.{Observer}
 use Rattle.plc_auto.specs.declared.observer.Observer.TheVariants.{Plain, Hazard, Epoch}
 use Rattle.plc_syntax.specs.Trees.{Text, Placed, FieldTree, PointerField, DataField, Declares, WatchTree, UseHazard}
-use Rattle.plc_syntax.specs.Trees.{UseEpoch, GhostKindTree, OneOf, OfThreads, Auxiliary, PlaceTree, PlaceOf, AtomTree}
-use Rattle.plc_syntax.specs.Trees.{NullAtom, NumberAtom}
-use Rattle.plc_syntax.specs.Trees.{NameAtom, ValueTree, NullValue, NewValue, NumberValue, PlaceValue, SetTree, SetName}
-use Rattle.plc_syntax.specs.Trees.{SetField, RefreshName, RefreshField, GhostValueTree, NameGhost, MeGhost, NoneGhost}
-use Rattle.plc_syntax.specs.Trees.{GhostSetTree, SetGhost, InitialTree, InitialSet, InitialGhost, Comparison, SameAs}
-use Rattle.plc_syntax.specs.Trees.{OtherThan, LessThan, NotLessThan, TestTree, Compares, ConditionTree, TestCondition}
-use Rattle.plc_syntax.specs.Trees.{RefreshCondition, CasCondition, PrimitiveTree, SetPrimitive, RefreshPrimitive}
-use Rattle.plc_syntax.specs.Trees.{GhostPrimitive, ActivePrimitive, AssumePrimitive, SkipPrimitive, ArgumentTree}
-use Rattle.plc_syntax.specs.Trees.{NoArgument, NullArgument, NameArgument, ActiveArgument, StatementTree}
-use Rattle.plc_syntax.specs.Trees.{PrimitiveStatement, AtomicStatement, CallStatement, IfStatement, ChooseStatement}
-use Rattle.plc_syntax.specs.Trees.{LoopStatement, BreakStatement, ReturnStatement, LabelStatement, BlockTree}
-use Rattle.plc_syntax.specs.Trees.{NoStatement, Then as ThenStatement, ElseTree, NoElse, ElseBlock, OrTree, NoOr}
-use Rattle.plc_syntax.specs.Trees.{OrBlock, OpTree, Operates, FileTree, MarkValue, UnmarkValue, MarkedTest}
-use Rattle.plc_syntax.specs.Trees.{UnmarkedTest}
+use Rattle.plc_syntax.specs.Trees.{UseEpoch, GhostKindTree, OneOf, OfThreads, Auxiliary, PlaceOf, AtomTree}
+use Rattle.plc_syntax.specs.Trees.{NullAtom, NumberAtom, NameAtom, ValueTree, NullValue, NewValue, NumberValue}
+use Rattle.plc_syntax.specs.Trees.{PlaceValue, SetTree, SetName, SetField, RefreshName, RefreshField, GhostValueTree}
+use Rattle.plc_syntax.specs.Trees.{NameGhost, MeGhost, NoneGhost, GhostSetTree, SetGhost, InitialTree, InitialSet}
+use Rattle.plc_syntax.specs.Trees.{InitialGhost, Comparison, SameAs, OtherThan, LessThan, NotLessThan, TestTree}
+use Rattle.plc_syntax.specs.Trees.{Compares, ConditionTree, TestCondition, RefreshCondition, CasCondition}
+use Rattle.plc_syntax.specs.Trees.{PrimitiveTree, SetPrimitive, RefreshPrimitive, GhostPrimitive, ActivePrimitive}
+use Rattle.plc_syntax.specs.Trees.{AssumePrimitive, SkipPrimitive, ArgumentTree, NoArgument, NullArgument, NameArgument}
+use Rattle.plc_syntax.specs.Trees.{ActiveArgument, StatementTree, PrimitiveStatement, AtomicStatement, CallStatement}
+use Rattle.plc_syntax.specs.Trees.{IfStatement, ChooseStatement, LoopStatement, BreakStatement, ReturnStatement}
+use Rattle.plc_syntax.specs.Trees.{LabelStatement, BlockTree, NoStatement, Then as ThenStatement, ElseTree, NoElse}
+use Rattle.plc_syntax.specs.Trees.{ElseBlock, OrTree, NoOr, OrBlock, OpTree, Operates, FileTree, MarkValue, UnmarkValue}
+use Rattle.plc_syntax.specs.Trees.{MarkedTest, UnmarkedTest}
 use Rattle.plc_parse.specs.declared.unit.Unit.{Unit as FileUnit}
 use Rattle.plc_print.specs.Outlines.{bare, outline_tree}
-
--- ---- parts without names
 
 -- a relation of data
 abbrev pub comparison : Rel → Comparison
@@ -84,13 +81,6 @@ module _ (file : File) (locals : List Local) where
   abbrev pub field : FieldId → Placed Text
   field f = bare (field_name file f)
 
-  -- a pointer variable that is read, and a field of one
-  abbrev pub from_variable : Var → PlaceTree
-  from_variable q = PlaceOf (variable q) None
-
-  abbrev pub from_field : Var → FieldId → PlaceTree
-  from_field q f = PlaceOf (variable q) (Some (field f))
-
   -- what is put into a data local
   abbrev pub value_tree : Num → ValueTree
   value_tree (nums.Lit n) = NumberValue (bare n)
@@ -104,15 +94,15 @@ module _ (file : File) (locals : List Local) where
   -- an assignment
   abbrev pub set_tree : Primitive → SetTree
   set_tree (prims.Null p) = SetName (variable p) (NullValue 0)
-  set_tree (prims.Copy p q) = SetName (variable p) (PlaceValue (from_variable q))
+  set_tree (prims.Copy p q) = SetName (variable p) (PlaceValue (PlaceOf (variable q) None))
   set_tree (prims.New p) = SetName (variable p) (NewValue 0)
   set_tree (prims.Mark p q) = SetName (variable p) (MarkValue 0 (variable q))
   set_tree (prims.Unmark p q) = SetName (variable p) (UnmarkValue 0 (variable q))
-  set_tree (prims.Load p q f) = SetName (variable p) (PlaceValue (from_field q f))
+  set_tree (prims.Load p q f) = SetName (variable p) (PlaceValue (PlaceOf (variable q) (Some (field f))))
   set_tree (prims.Store p f q) = SetField (variable p) (field f) (NameAtom (variable q))
   set_tree (prims.StoreNull p f) = SetField (variable p) (field f) (NullAtom 0)
   set_tree (prims.DataSet x e) = SetName (data_local x) (value_tree e)
-  set_tree (prims.DataLoad x q f) = SetName (data_local x) (PlaceValue (from_field q f))
+  set_tree (prims.DataLoad x q f) = SetName (data_local x) (PlaceValue (PlaceOf (variable q) (Some (field f))))
   set_tree (prims.DataStore p f e) = SetField (variable p) (field f) (number_tree e)
   set_tree k = SetName (bare []) (NullValue 0)
 
@@ -145,8 +135,9 @@ module _ (file : File) (locals : List Local) where
   primitive_tree (prims.NotNull p) = AssumePrimitive (test_tree (prims.NotNull p))
   primitive_tree (prims.DataTest r x e) = AssumePrimitive (test_tree (prims.DataTest r x e))
   primitive_tree (prims.MarkTest p m) = AssumePrimitive (test_tree (prims.MarkTest p m))
-  primitive_tree (prims.Refresh p q) = RefreshPrimitive (RefreshName (pointer p) (from_variable q))
-  primitive_tree (prims.RefreshLoad p q f) = RefreshPrimitive (RefreshName (pointer p) (from_field q f))
+  primitive_tree (prims.Refresh p q) = RefreshPrimitive (RefreshName (pointer p) (PlaceOf (variable q) None))
+  primitive_tree (prims.RefreshLoad p q f) =
+      RefreshPrimitive (RefreshName (pointer p) (PlaceOf (variable q) (Some (field f))))
   primitive_tree (prims.RefreshStore p f q) = RefreshPrimitive (RefreshField (variable p) (field f) (variable q))
   primitive_tree (prims.Call f a) = SkipPrimitive
   primitive_tree (prims.Done f) = SkipPrimitive
@@ -156,21 +147,19 @@ module _ (file : File) (locals : List Local) where
 
   -- a pointer variable, or null
   abbrev pub name_or_null : Option Var → Option (Placed Text)
-  name_or_null None = None
-  name_or_null (Some q) = Some (variable q)
+  name_or_null q = option_map variable q
 
   -- a refresh into a variable, as a condition
   abbrev pub refresh_condition : Primitive → ConditionTree
-  refresh_condition (prims.Refresh p q) = RefreshCondition (pointer p) (from_variable q)
-  refresh_condition (prims.RefreshLoad p q f) = RefreshCondition (pointer p) (from_field q f)
+  refresh_condition (prims.Refresh p q) = RefreshCondition (pointer p) (PlaceOf (variable q) None)
+  refresh_condition (prims.RefreshLoad p q f) = RefreshCondition (pointer p) (PlaceOf (variable q) (Some (field f)))
   refresh_condition k = RefreshCondition (bare []) (PlaceOf (bare []) None)
 
   -- the condition of an `if`
   abbrev pub condition_tree : Cond → ConditionTree
   condition_tree (conds.Test k) = TestCondition (test_tree k)
   condition_tree (conds.Refresh k) = refresh_condition k
-  condition_tree (conds.Cas active p old new) =
-      CasCondition active (variable p) (name_or_null old) (name_or_null new)
+  condition_tree (conds.Cas active p old new) = CasCondition active (variable p) (name_or_null old) (name_or_null new)
 
   -- what a function is called with
   abbrev pub argument_tree : Arg → Bool → ArgumentTree
@@ -185,8 +174,7 @@ module _ (file : File) (locals : List Local) where
     pub statement_tree : Statement → StatementTree
     statement_tree (One k) = PrimitiveStatement (primitive_tree k)
     statement_tree (Atomic ks) = AtomicStatement (map (λ k. bare (primitive_tree k)) ks)
-    statement_tree (Call f a active d) =
-        CallStatement (bare (function_name file f)) (argument_tree a active)
+    statement_tree (Call f a active d) = CallStatement (bare (function_name file f)) (argument_tree a active)
         (option_map (λ l. bare (label_name file l)) d)
     statement_tree (If c y n) = IfStatement (condition_tree c) (block_tree y) (else_block n (block_tree n))
     statement_tree (Choose bs) = choice_tree (blocks_tree bs)

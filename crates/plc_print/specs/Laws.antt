@@ -7,8 +7,7 @@ use Rattle.plc_lex.specs.declared.token.TokenKind.{TokenKind}
 use Rattle.plc_lex.specs.Spelling.{Spells}
 use Rattle.plc_lex.specs.Stops.{IsKind}
 use Rattle.plc_lang.specs.declared.syntax.Op.{Op}
-use Rattle.plc_lang.specs.Statements.{Statement, One, Atomic, Call, If, Choose, Loop, Break, Return, Skip, Label}
-use Rattle.plc_lang.specs.Statements.{Statements, Empty, Then, Blocks, NoBlock, And}
+use Rattle.plc_lang.specs.Statements.{Statement, If, Choose, Loop, Statements, Empty, Then, Blocks, NoBlock, And}
 use Rattle.plc_syntax.specs.Trees.{FileTree, file_tokens}
 use Rattle.plc_syntax.specs.Syntax.{kinds}
 use Rattle.plc_syntax.specs.Nesting.{NoneTooDeep}
@@ -21,16 +20,10 @@ use Rattle.plc_print.specs.Text.{text_of, canonical_text}
 -- every line is 0
 abbrev mutual
   pub statement_without_lines : Statement → Statement
-  statement_without_lines (One k) = One k
-  statement_without_lines (Atomic ks) = Atomic ks
-  statement_without_lines (Call f a b d) = Call f a b d
   statement_without_lines (If c y n) = If c (without_lines y) (without_lines n)
   statement_without_lines (Choose bs) = Choose (blocks_without_lines bs)
   statement_without_lines (Loop b) = Loop (without_lines b)
-  statement_without_lines Break = Break
-  statement_without_lines Return = Return
-  statement_without_lines Skip = Skip
-  statement_without_lines (Label l) = Label l
+  statement_without_lines s = s
 
   pub without_lines : Statements → Statements
   without_lines Empty = Empty

@@ -1,7 +1,6 @@
 -- The tree of an outline's canonical text: invariants before the other items, and nothing at all for an outline of
 -- depth 0 that says nothing. It has no places yet.
-use Rattle.std.specs.Prelude.{ℕ, zero, suc, Bool, true, false, Option, Some, None}
-use Rattle.std.specs.Prelude.{List, [], ◌∷◌, ◌++◌, map, get_or}
+use Rattle.std.specs.Prelude.{ℕ, zero, suc, Bool, true, false, Option, Some, None, List, [], ◌∷◌, ◌++◌, map, get_or}
 use Rattle.plc_lang.specs.declared.syntax.Local.{Local}
 use Rattle.plc_lang.specs.declared.syntax.File.{File}
 use Rattle.plc_lang.specs.Locals.{locals_of}
@@ -63,14 +62,8 @@ module _ (file : File) (locals : List Local) (bound : List Text) where
   abbrev pub pointer_place : Term → PlaceTree
   pointer_place (terms.Shared i) = PlaceOf (bare (base_name (bases.Shared i))) None
   pointer_place (terms.Local i) = PlaceOf (bare (base_name (bases.Local i))) None
-  pointer_place (terms.Bound i) = PlaceOf (bare []) None
   pointer_place (terms.FieldOf b f) = PlaceOf (bare (base_name b)) (Some (bare (field_name file f)))
-  pointer_place (terms.GhostOf b g) = PlaceOf (bare []) None
-  pointer_place terms.Null = PlaceOf (bare []) None
-  pointer_place (terms.Number n) = PlaceOf (bare []) None
-  pointer_place (terms.Value g v) = PlaceOf (bare []) None
-  pointer_place terms.Me = PlaceOf (bare []) None
-  pointer_place terms.Nobody = PlaceOf (bare []) None
+  pointer_place _ = PlaceOf (bare []) None
 
   -- what is said of a node or a place
   abbrev pub flag_literal : FlagTree → Bool → LiteralTree
@@ -90,13 +83,9 @@ bound_tree [] = NoBound
 bound_tree (n ∷ []) = AllOf (bare n) None
 bound_tree (n ∷ m ∷ ns) = AllOf (bare n) (Some (bare m))
 
--- no text has a clause without literals; none of them is true, as this one isn't
-abbrev pub never : LiteralTree
-never = EqualityLiteral (NullTerm 0) false (NullTerm 0)
-
--- literals in order
+-- literals in order; no text has a clause without any, which is never true, as `null != null` isn't
 abbrev pub claims_tree : BoundTree → List LiteralTree → ClauseTree
-claims_tree b [] = Claims b never []
+claims_tree b [] = Claims b (EqualityLiteral (NullTerm 0) false (NullTerm 0)) []
 claims_tree b (l ∷ ls) = Claims b l (map bare ls)
 
 -- a clause where these locals are in reach
@@ -125,12 +114,10 @@ abbrev pub locals_in_reach : File → Option ℕ → List Local
 locals_in_reach file None = []
 locals_in_reach file (Some o) = locals_of file.ops o
 
-abbrev pub site_locals : File → Site → List Local
-site_locals file site = locals_in_reach file (op_of_site (labels_by_op file.ops) site)
-
 -- a clause at points
 abbrev pub item_tree : File → Item → ItemTree
-item_tree file item = site_tree file item.site (clause_tree file (site_locals file item.site) item.clause)
+item_tree file item = site_tree file item.site
+    (clause_tree file (locals_in_reach file (op_of_site (labels_by_op file.ops) item.site)) item.clause)
 
 -- ---- the outline
 
@@ -142,8 +129,7 @@ depth_tree (suc n) = Some (bare (suc n))
 -- of depth 0 and without items it is left out
 abbrev pub unless_empty : Option (Placed ℕ) → List ItemTree → Option OutlineTree
 unless_empty None [] = None
-unless_empty None (x ∷ xs) = Some (Outlined None (x ∷ xs))
-unless_empty (Some d) xs = Some (Outlined (Some d) xs)
+unless_empty d xs = Some (Outlined d xs)
 
 -- invariants go first, each kind in its own order
 abbrev pub item_trees : File → Outline → List ItemTree

@@ -1,5 +1,5 @@
 -- What a printer adds to its text.
-use Rattle.std.specs.Prelude.{◌≡◌, ◌++◌}
+use Rattle.std.specs.Prelude.{◌≡◌, ◌++◌, Result, OnOk}
 use Rattle.plc_lex.specs.declared.token.TokenKind.{TokenKind}
 use Rattle.plc_lex.specs.declared.token.TokenKind.TheVariants.{Word, Name, Number, Symbol}
 use Rattle.plc_syntax.specs.Trees.{Pieces, Piece as TreePiece, plain, kinds_of}
@@ -19,6 +19,6 @@ kind_of (pieces.Sign symbol) = Symbol symbol
 abbrev pub piece_of : Piece → TreePiece
 piece_of p = plain (kind_of p)
 
--- the text of these tokens after what was printed before; where they stood plays no part
-abbrev pub Prints : Printer → Printer → Pieces → Type 0
-Prints old new tokens = new.text.items ≡ old.text.items ++ text_of (kinds_of tokens)
+-- the text of these tokens after what was printed before, unless memory ran out; where they stood plays no part
+abbrev pub Prints : {A E : Type 0} → Result A E → Printer → Printer → Pieces → Type 0
+Prints result old new tokens = OnOk result (new.text.items ≡ old.text.items ++ text_of (kinds_of tokens))

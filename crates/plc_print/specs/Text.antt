@@ -25,10 +25,8 @@ after_symbol s = 32
 
 -- what follows a token
 abbrev pub after : TokenKind → ℕ
-after (Word w) = 32
-after (Name n) = 32
-after (Number n) = 32
 after (Symbol s) = after_symbol s
+after _ = 32
 
 -- the text of tokens
 abbrev pub text_of : List TokenKind → List ℕ

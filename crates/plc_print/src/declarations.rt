@@ -1,20 +1,20 @@
 // The parts of a file, each with its optional parts left out where they are empty.
-ghost use Rattle.std.specs.Prelude.{◌≡◌, [], OnOk, IfOk, filter, map, drop};
+ghost use Rattle.std.specs.Prelude.{◌≡◌, [], IfOk, filter, map, drop};
 ghost use Rattle.plc_lang.specs.Locals.{is_parameter};
-ghost use Rattle.plc_syntax.specs.Trees.{Declares, Auxiliary, each_then, maybe_then, comma_name_then, field_then};
-ghost use Rattle.plc_syntax.specs.Trees.{struct_then, shared_then, function_then, watch_then, ghost_kind_then};
-ghost use Rattle.plc_syntax.specs.Trees.{ghost_then, initial_then, init_then, parameters_then, op_then};
-ghost use Rattle.plc_syntax.specs.Trees.{placed_then};
+ghost use Rattle.plc_lang.specs.Names.{name_at};
+ghost use Rattle.plc_syntax.specs.Trees.{Declares, Auxiliary, each_then, maybe_then, placed_then, comma_name_then};
+ghost use Rattle.plc_syntax.specs.Trees.{field_then, struct_then, shared_then, function_then, watch_then};
+ghost use Rattle.plc_syntax.specs.Trees.{ghost_kind_then, ghost_then, initial_then, init_then, parameters_then, op_then};
 ghost use Rattle.plc_print.specs.Canonical.{declaration_tree, is_declared, op_tree, initial_tree, init_tree};
 ghost use Rattle.plc_print.specs.Canonical.{ghost_kind, watch_tree};
-ghost use Rattle.plc_lang.specs.Names.{name_at};
 ghost use Rattle.plc_print.specs.Outlines.{bare};
 ghost use Rattle.plc_print.specs.Pieces.{Prints};
 
 use crate::names::Reach;
 use crate::primitives::initial_line;
 use crate::statements::statements;
-use crate::tokens::{BEGIN, CLOSE, COMMA, END, OPEN, Piece, Printed, Printer, SEMICOLON};
+use crate::tokens::Piece::{Name, Word};
+use crate::tokens::{BEGIN, CLOSE, COMMA, END, OPEN, Printed, Printer, SEMICOLON};
 use plc_auto::Observer;
 use plc_lang::{Field, File, Ghost, Local, Op, Prim, function_name, name_at};
 use plc_lex::Keyword;
@@ -22,17 +22,16 @@ use std::alloc::{AllocError, Global};
 
 /// A pointer or data.
 fn declaration(out: &mut Printer, name: &[u8], pointer: bool) -> Printed
-    ensures { OnOk result (Prints out.old out.new (field_then (declaration_tree name.now pointer) [])) }
+    ensures { Prints result out.old out.new (field_then (declaration_tree name.now pointer) []) }
 {
     let word = if pointer { Keyword::Ptr } else { Keyword::Data };
-    out.tokens(&[Piece::Word(word), Piece::Name(name), SEMICOLON])
+    out.tokens(&[Word(word), Name(name), SEMICOLON])
 }
 
 /// The fields of the struct.
 fn fields(out: &mut Printer, file: &File, fields: &[Field]) -> Printed
-    ensures { OnOk result
-        (Prints out.old out.new (each_then field_then (map (λ f. declaration_tree
-        (name_at file.now f.name) f.pointer) fields.now) [])) }
+    ensures { Prints result out.old out.new (each_then field_then
+        (map (λ f. declaration_tree (name_at file.now f.name) f.pointer) fields.now) []) }
 {
     for field in fields {
         declaration(out, name_at(file, field.name), field.pointer)?;
@@ -42,45 +41,33 @@ fn fields(out: &mut Printer, file: &File, fields: &[Field]) -> Printed
 
 /// The struct.
 pub fn structure(out: &mut Printer, file: &File) -> Printed
-    ensures { OnOk result
-        (Prints out.old out.new (struct_then (bare (name_at file.now 1)) (map (λ f. declaration_tree
-        (name_at file.now f.name) f.pointer) file.now.fields) [])) }
+    ensures { Prints result out.old out.new (struct_then (bare (name_at file.now 1))
+        (map (λ f. declaration_tree (name_at file.now f.name) f.pointer) file.now.fields) []) }
 {
-    out.tokens(&[
-        Piece::Word(Keyword::Struct),
-        Piece::Name(name_at(file, 1)),
-        BEGIN,
-    ])?;
+    out.tokens(&[Word(Keyword::Struct), Name(name_at(file, 1)), BEGIN])?;
     fields(out, file, file.fields.as_slice())?;
     out.token(END)
 }
 
 /// The shared pointers, by the numbers of their names.
 pub fn shared_pointers(out: &mut Printer, file: &File, numbers: &[u16]) -> Printed
-    ensures { OnOk result (Prints out.old out.new (each_then shared_then
-        (map (λ n. bare (name_at file.now n)) numbers.now) [])) }
+    ensures { Prints result out.old out.new (each_then shared_then
+        (map (λ n. bare (name_at file.now n)) numbers.now) []) }
 {
     for number in numbers {
-        let name = Piece::Name(name_at(file, *number));
-        out.tokens(&[Piece::Word(Keyword::Shared), name, SEMICOLON])?;
+        let name = Name(name_at(file, *number));
+        out.tokens(&[Word(Keyword::Shared), name, SEMICOLON])?;
     }
     Ok(())
 }
 
 /// A reclaimer function.
 fn function(out: &mut Printer, name: &[u8], pointer: bool) -> Printed
-    ensures { OnOk result (Prints out.old out.new (function_then (Declares (bare name.now) pointer) [])) }
+    ensures { Prints result out.old out.new (function_then (Declares (bare name.now) pointer) []) }
 {
-    let (word, name) = (Piece::Word(Keyword::Call), Piece::Name(name));
+    let (word, name) = (Word(Keyword::Call), Name(name));
     if pointer {
-        out.tokens(&[
-            word,
-            name,
-            OPEN,
-            Piece::Word(Keyword::Ptr),
-            CLOSE,
-            SEMICOLON,
-        ])
+        out.tokens(&[word, name, OPEN, Word(Keyword::Ptr), CLOSE, SEMICOLON])
     } else {
         out.tokens(&[word, name, OPEN, CLOSE, SEMICOLON])
     }
@@ -88,9 +75,8 @@ fn function(out: &mut Printer, name: &[u8], pointer: bool) -> Printed
 
 /// The reclaimer functions but `retire`, which is declared from the start.
 pub fn declared_functions(out: &mut Printer, file: &File) -> Printed
-    ensures { OnOk result
-        (Prints out.old out.new (each_then function_then (map (λ f. Declares (bare (name_at file.now f.name)) f.pointer)
-        (drop 1 file.now.funcs)) [])) }
+    ensures { Prints result out.old out.new (each_then function_then
+        (map (λ f. Declares (bare (name_at file.now f.name)) f.pointer) (drop 1 file.now.funcs)) []) }
 {
     let [_retire, others @ ..] = file.funcs.as_slice() else {
         return Ok(());
@@ -103,22 +89,19 @@ pub fn declared_functions(out: &mut Printer, file: &File) -> Printed
 
 /// What is observed.
 pub fn watch(out: &mut Printer, file: &File, observer: Observer) -> Printed
-    ensures { OnOk result (Prints out.old out.new (maybe_then watch_then (watch_tree file.now observer) [])) }
+    ensures { Prints result out.old out.new (maybe_then watch_then (watch_tree file.now observer) []) }
 {
-    let word = Piece::Word(Keyword::Use);
+    let word = Word(Keyword::Use);
     match observer {
         Observer::Plain => Ok(()),
         Observer::Hazard(func) => {
-            let (scheme, name) = (
-                Piece::Word(Keyword::Hazard),
-                Piece::Name(function_name(file, func)),
-            );
+            let (scheme, name) = (Word(Keyword::Hazard), Name(function_name(file, func)));
             out.tokens(&[word, scheme, OPEN, name, CLOSE, SEMICOLON])
         }
         Observer::Epoch(enter, leave) => {
-            let scheme = Piece::Word(Keyword::Epoch);
-            let enter = Piece::Name(function_name(file, enter));
-            let leave = Piece::Name(function_name(file, leave));
+            let scheme = Word(Keyword::Epoch);
+            let enter = Name(function_name(file, enter));
+            let leave = Name(function_name(file, leave));
             out.tokens(&[word, scheme, OPEN, enter, COMMA, leave, CLOSE, SEMICOLON])
         }
     }
@@ -126,23 +109,23 @@ pub fn watch(out: &mut Printer, file: &File, observer: Observer) -> Printed
 
 /// Names after the first, by their numbers.
 fn comma_names(out: &mut Printer, file: &File, numbers: &[u16]) -> Printed
-    ensures { OnOk result (Prints out.old out.new (each_then comma_name_then
-        (map (λ n. bare (name_at file.now n)) numbers.now) [])) }
+    ensures { Prints result out.old out.new (each_then comma_name_then
+        (map (λ n. bare (name_at file.now n)) numbers.now) []) }
 {
     for number in numbers {
-        out.tokens(&[COMMA, Piece::Name(name_at(file, *number))])?;
+        out.tokens(&[COMMA, Name(name_at(file, *number))])?;
     }
     Ok(())
 }
 
 /// What an auxiliary field holds, by the numbers of its values' names.
 fn kind(out: &mut Printer, file: &File, values: &[u16]) -> Printed
-    ensures { OnOk result (Prints out.old out.new (ghost_kind_then (ghost_kind file.now values.now) [])) }
+    ensures { Prints result out.old out.new (ghost_kind_then (ghost_kind file.now values.now) []) }
 {
     match values {
-        [] => out.token(Piece::Word(Keyword::Thread)),
+        [] => out.token(Word(Keyword::Thread)),
         [first, others @ ..] => {
-            out.tokens(&[BEGIN, Piece::Name(name_at(file, *first))])?;
+            out.tokens(&[BEGIN, Name(name_at(file, *first))])?;
             comma_names(out, file, others)?;
             out.token(END)
         }
@@ -151,23 +134,18 @@ fn kind(out: &mut Printer, file: &File, values: &[u16]) -> Printed
 
 /// An auxiliary field.
 fn auxiliary(out: &mut Printer, file: &File, field: &Ghost) -> Printed
-    ensures { OnOk result
-        (Prints out.old out.new (ghost_then (Auxiliary (bare (name_at file.now field.now.name))
-        (ghost_kind file.now field.now.values)) [])) }
+    ensures { Prints result out.old out.new (ghost_then
+        (Auxiliary (bare (name_at file.now field.now.name)) (ghost_kind file.now field.now.values)) []) }
 {
-    out.tokens(&[
-        Piece::Word(Keyword::Ghost),
-        Piece::Name(name_at(file, field.name)),
-    ])?;
+    out.tokens(&[Word(Keyword::Ghost), Name(name_at(file, field.name))])?;
     kind(out, file, field.values.as_slice())?;
     out.token(SEMICOLON)
 }
 
 /// The auxiliary fields.
 pub fn auxiliaries(out: &mut Printer, file: &File, fields: &[Ghost]) -> Printed
-    ensures { OnOk result
-        (Prints out.old out.new (each_then ghost_then (map (λ g. Auxiliary (bare (name_at file.now g.name))
-        (ghost_kind file.now g.values)) fields.now) [])) }
+    ensures { Prints result out.old out.new (each_then ghost_then
+        (map (λ g. Auxiliary (bare (name_at file.now g.name)) (ghost_kind file.now g.values)) fields.now) []) }
 {
     for field in fields {
         auxiliary(out, file, field)?;
@@ -177,8 +155,8 @@ pub fn auxiliaries(out: &mut Printer, file: &File, fields: &[Ghost]) -> Printed
 
 /// The primitives of `init`.
 fn initials(out: &mut Printer, file: &File, prims: &[Prim]) -> Printed
-    ensures { OnOk result (Prints out.old out.new (each_then (placed_then initial_then)
-        (map (λ k. bare (initial_tree file.now k)) prims.now) [])) }
+    ensures { Prints result out.old out.new (each_then (placed_then initial_then)
+        (map (λ k. bare (initial_tree file.now k)) prims.now) []) }
 {
     for prim in prims {
         initial_line(out, file, *prim)?;
@@ -188,12 +166,12 @@ fn initials(out: &mut Printer, file: &File, prims: &[Prim]) -> Printed
 
 /// `init`, which is left out where it is empty.
 pub fn start(out: &mut Printer, file: &File) -> Printed
-    ensures { OnOk result (Prints out.old out.new (maybe_then init_then (init_tree file.now file.now.init) [])) }
+    ensures { Prints result out.old out.new (maybe_then init_then (init_tree file.now file.now.init) []) }
 {
     match file.init.as_slice() {
         [] => Ok(()),
         [_first, _others @ ..] => {
-            out.tokens(&[Piece::Word(Keyword::Init), BEGIN])?;
+            out.tokens(&[Word(Keyword::Init), BEGIN])?;
             initials(out, file, file.init.as_slice())?;
             out.token(END)
         }
@@ -215,13 +193,12 @@ fn parameter_numbers(alloc: Global, locals: &[Local]) -> Result<Vec<u16>, AllocE
 
 /// Names with a comma before each but the first, by their numbers.
 fn parted_names(out: &mut Printer, file: &File, numbers: &[u16]) -> Printed
-    ensures { OnOk result (Prints out.old out.new (parameters_then
-        (map (λ n. bare (name_at file.now n)) numbers.now) [])) }
+    ensures { Prints result out.old out.new (parameters_then (map (λ n. bare (name_at file.now n)) numbers.now) []) }
 {
     match numbers {
         [] => Ok(()),
         [first, others @ ..] => {
-            out.token(Piece::Name(name_at(file, *first)))?;
+            out.token(Name(name_at(file, *first)))?;
             comma_names(out, file, others)
         }
     }
@@ -229,19 +206,17 @@ fn parted_names(out: &mut Printer, file: &File, numbers: &[u16]) -> Printed
 
 /// The parameters of an operation.
 fn parameters(alloc: Global, out: &mut Printer, file: &File, locals: &[Local]) -> Printed
-    ensures { OnOk result
-        (Prints out.old out.new (parameters_then (map (λ l. bare (name_at file.now l.name))
-        (filter is_parameter locals.now)) [])) }
+    ensures { Prints result out.old out.new (parameters_then
+        (map (λ l. bare (name_at file.now l.name)) (filter is_parameter locals.now)) []) }
 {
     let numbers = parameter_numbers(alloc, locals)?;
     parted_names(out, file, &numbers)
 }
 
 /// The locals of an operation that are no parameters.
-fn locals(out: &mut Printer, file: &File, locals: &[Local]) -> Printed
-    ensures { OnOk result
-        (Prints out.old out.new (each_then field_then (map (λ l. declaration_tree
-        (name_at file.now l.name) l.pointer) (filter is_declared locals.now)) [])) }
+fn declared_locals(out: &mut Printer, file: &File, locals: &[Local]) -> Printed
+    ensures { Prints result out.old out.new (each_then field_then
+        (map (λ l. declaration_tree (name_at file.now l.name) l.pointer) (filter is_declared locals.now)) []) }
 {
     for local in locals {
         if !local.param {
@@ -253,28 +228,21 @@ fn locals(out: &mut Printer, file: &File, locals: &[Local]) -> Printed
 
 /// An operation.
 fn operation(alloc: Global, out: &mut Printer, file: &File, op: &Op) -> Printed
-    ensures { OnOk result (Prints out.old out.new (op_then (op_tree file.now op.now) [])) }
+    ensures { Prints result out.old out.new (op_then (op_tree file.now op.now) []) }
 {
-    let reach = Reach {
-        file,
-        locals: op.locals.as_slice(),
-    };
-    out.tokens(&[
-        Piece::Word(Keyword::Op),
-        Piece::Name(name_at(file, op.name)),
-        OPEN,
-    ])?;
-    parameters(alloc, out, file, reach.locals)?;
+    let locals = op.locals.as_slice();
+    out.tokens(&[Word(Keyword::Op), Name(name_at(file, op.name)), OPEN])?;
+    parameters(alloc, out, file, locals)?;
     out.tokens(&[CLOSE, BEGIN])?;
-    locals(out, file, reach.locals)?;
-    statements(out, reach, &op.body)?;
+    declared_locals(out, file, locals)?;
+    statements(out, Reach { file, locals }, &op.body)?;
     out.token(END)
 }
 
 /// The operations.
 pub fn operations(alloc: Global, out: &mut Printer, file: &File, ops: &[Op]) -> Printed
-    ensures { OnOk result (Prints out.old out.new (each_then (placed_then op_then)
-        (map (λ o. bare (op_tree file.now o)) ops.now) [])) }
+    ensures { Prints result out.old out.new (each_then (placed_then op_then)
+        (map (λ o. bare (op_tree file.now o)) ops.now) []) }
 {
     for op in ops {
         operation(alloc, out, file, op)?;

@@ -1,5 +1,5 @@
 // The parts of a file in the grammar's order.
-ghost use Rattle.std.specs.Prelude.{◌≡◌, [], IfOk, OnOk};
+ghost use Rattle.std.specs.Prelude.{◌≡◌, [], IfOk};
 ghost use Rattle.plc_syntax.specs.Trees.{file_then};
 ghost use Rattle.plc_print.specs.Canonical.{canonical_tree};
 ghost use Rattle.plc_print.specs.Pieces.{Prints};
@@ -25,8 +25,8 @@ fn parts(
     observer: Observer,
     outlined: &Outline,
 ) -> Printed
-    ensures { OnOk result (Prints out.old out.new
-        (file_then (canonical_tree (record { file = file.now; observer = observer; outline = outlined.now })) [])) }
+    ensures { Prints result out.old out.new (file_then
+        (canonical_tree (record { file = file.now; observer = observer; outline = outlined.now })) []) }
 {
     structure(out, file)?;
     shared_pointers(out, file, file.shared.as_slice())?;
@@ -47,8 +47,7 @@ pub fn print(alloc: Global, unit: &Unit) -> Result<Vec<u8>, NoMemory>
     print_parts(alloc, &unit.file, unit.observer, &unit.outline)
 }
 
-/// The canonical text of the unit that has these parts, for a caller that has it in parts. Its one error is that memory
-/// ran out.
+/// The same, for a caller that has the unit in parts.
 pub fn print_parts(
     alloc: Global,
     file: &File,
@@ -58,7 +57,8 @@ pub fn print_parts(
     ensures { IfOk result (λ text.
         text.items ≡ canonical_text (record { file = file.now; observer = observer; outline = outlined.now })) }
 {
-    let mut out = Printer::new(alloc);
+    let text = Vec::new(alloc);
+    let mut out = Printer { alloc, text };
     parts(alloc, &mut out, file, observer, outlined)?;
-    Ok(out.into_text())
+    Ok(out.text)
 }

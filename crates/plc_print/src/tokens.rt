@@ -1,11 +1,12 @@
 // A form that is a few tokens is printed by one call, as a list of them: so the table of the forms is a
 // table of such lists, and what a form prints is seen at once.
-ghost use Rattle.std.specs.Prelude.{◌≡◌, ◌++◌, ◌∷◌, [], OnOk, decimal, map};
+ghost use Rattle.std.specs.Prelude.{◌≡◌, ◌++◌, ◌∷◌, [], OnOk, map};
 ghost use Rattle.plc_print.specs.Pieces.{Prints, piece_of};
 ghost use Rattle.plc_print.specs.Text.{after_symbol};
 
+use plc_base::NoMemory;
 use plc_lex::{Keyword, Symbol, symbol_text, word_text};
-use std::alloc::{AllocError, Global};
+use std::alloc::Global;
 
 /// A token to print.
 #[derive(Clone, Copy)]
@@ -16,46 +17,36 @@ pub enum Piece<'a> {
     Sign(Symbol),
 }
 
-/// `null`
-pub const NULL: Piece<'static> = Piece::Word(Keyword::Null);
+// The tokens that stand in several forms.
+pub const NULL: Piece = Piece::Word(Keyword::Null);
 
-/// `:=`
-pub const ASSIGN: Piece<'static> = Piece::Sign(Symbol::Assign);
+pub const ASSIGN: Piece = Piece::Sign(Symbol::Assign);
 
-/// `?=`
-pub const REFRESH: Piece<'static> = Piece::Sign(Symbol::Refresh);
+pub const REFRESH: Piece = Piece::Sign(Symbol::Refresh);
 
-/// `.`
-pub const DOT: Piece<'static> = Piece::Sign(Symbol::Dot);
+pub const DOT: Piece = Piece::Sign(Symbol::Dot);
 
-/// `,`
-pub const COMMA: Piece<'static> = Piece::Sign(Symbol::Comma);
+pub const COMMA: Piece = Piece::Sign(Symbol::Comma);
 
-/// `:`
-pub const COLON: Piece<'static> = Piece::Sign(Symbol::Colon);
+pub const COLON: Piece = Piece::Sign(Symbol::Colon);
 
-/// `;`
-pub const SEMICOLON: Piece<'static> = Piece::Sign(Symbol::Semicolon);
+pub const SEMICOLON: Piece = Piece::Sign(Symbol::Semicolon);
 
-/// `(`
-pub const OPEN: Piece<'static> = Piece::Sign(Symbol::OpenParen);
+pub const OPEN: Piece = Piece::Sign(Symbol::OpenParen);
 
-/// `)`
-pub const CLOSE: Piece<'static> = Piece::Sign(Symbol::CloseParen);
+pub const CLOSE: Piece = Piece::Sign(Symbol::CloseParen);
 
-/// `{`
-pub const BEGIN: Piece<'static> = Piece::Sign(Symbol::OpenBrace);
+pub const BEGIN: Piece = Piece::Sign(Symbol::OpenBrace);
 
-/// `}`
-pub const END: Piece<'static> = Piece::Sign(Symbol::CloseBrace);
+pub const END: Piece = Piece::Sign(Symbol::CloseBrace);
 
 /// What printing answers: nothing, or that memory ran out.
-pub type Printed = Result<(), AllocError>;
+pub type Printed = Result<(), NoMemory>;
 
 /// What was printed so far.
 #[derive(Drop)]
 pub struct Printer {
-    alloc: Global,
+    pub alloc: Global,
     pub text: Vec<u8>,
 }
 
@@ -70,23 +61,6 @@ fn after_symbol(symbol: Symbol) -> u8
 }
 
 impl Printer {
-    /// Nothing was printed so far. It takes no memory.
-    pub fn new(alloc: Global) -> Printer
-        ensures { result.text.items ≡ [] }
-    {
-        Printer {
-            alloc,
-            text: Vec::new(alloc),
-        }
-    }
-
-    /// What was printed. It takes no memory.
-    pub fn into_text(self) -> Vec<u8>
-        ensures { result.items ≡ self.text.items }
-    {
-        self.text
-    }
-
     /// A token's text and what follows it.
     fn put(&mut self, text: &[u8], after: u8) -> Printed
         ensures { OnOk result (self.new.text.items ≡ self.old.text.items ++ text.now ++ after ∷ []) }
@@ -96,29 +70,24 @@ impl Printer {
         Ok(())
     }
 
-    /// A number in decimal digits, and a space.
-    fn number(&mut self, number: u32) -> Printed
-        ensures { OnOk result (self.new.text.items ≡ self.old.text.items ++ decimal number ++ 32 ∷ []) }
-    {
-        let digits = number.to_string(self.alloc)?;
-        self.put(digits.as_bytes(), b' ')
-    }
-
     /// One token.
     pub fn token(&mut self, piece: Piece) -> Printed
-        ensures { OnOk result (Prints self.old self.new (piece_of piece.entry ∷ [])) }
+        ensures { Prints result self.old self.new (piece_of piece.entry ∷ []) }
     {
         match piece {
             Piece::Word(word) => self.put(word_text(word), b' '),
             Piece::Name(name) => self.put(name, b' '),
-            Piece::Number(number) => self.number(number),
+            Piece::Number(number) => {
+                let digits = number.to_string(self.alloc)?;
+                self.put(digits.as_bytes(), b' ')
+            }
             Piece::Sign(symbol) => self.put(symbol_text(symbol), after_symbol(symbol)),
         }
     }
 
     /// Tokens one after the other.
     pub fn tokens(&mut self, pieces: &[Piece]) -> Printed
-        ensures { OnOk result (Prints self.old self.new (map piece_of pieces.now)) }
+        ensures { Prints result self.old self.new (map piece_of pieces.now) }
     {
         for piece in pieces {
             self.token(*piece)?;

@@ -4,7 +4,7 @@ use Rattle.plc_syntax.specs.Trees.{each_then, field_then}
 use Rattle.plc_print.specs.Canonical.{declaration_tree, is_declared}
 use Rattle.plc_lang.specs.Names.{name_at}
 use Rattle.plc_print.proofs.Left.{Left}
-use Rattle.plc_print.proofs.declarations.locals.Given as goal
+use Rattle.plc_print.proofs.declarations.declared_locals.Given as goal
 
 abbrev pub invariant-loop-local : goal.invariant-loop-local
 invariant-loop-local l =
