@@ -48,14 +48,15 @@ const ROWS: [Row; 17] = [
         words: "file",
         file: SMALL,
         status: 0,
-        shows: "<pre class=\"answer\">safe points 5 steps 4 locations 2 obligations 0\n</pre>",
+        shows: "<h1>file</h1>\n<p><b class=\"badge safe\">SAFE</b> In no run of this program",
         hides: "<script",
     },
     Row {
         words: "file",
         file: SMALL,
         status: 0,
-        shows: "<td>op f(v) { ptr n; n := new; n.val := v; Top := n; }</td>",
+        shows: "</details>\n<details id=\"answer\"><summary>The answer in full</summary>\n<pre class=\"answer\">safe points 5 \
+                steps 4 locations 2 obligations 0\n</pre>\n</details>\n</body>",
         hides: "src=",
     },
     Row {
@@ -83,8 +84,8 @@ const ROWS: [Row; 17] = [
         words: "file",
         file: UNPROVED,
         status: 1,
-        shows: "<pre class=\"answer\">unproved own step 1 line 7 clause 0\n",
-        hides: "At least",
+        shows: "<b class=\"badge open\">UNPROVED</b>",
+        hides: "SAFE",
     },
     Row {
         words: "--plain file",
@@ -132,14 +133,14 @@ const ROWS: [Row; 17] = [
         words: "file schedule leak",
         file: SMALL,
         status: 1,
-        shows: "<pre class=\"answer\">impossible line 6\n</pre>",
-        hides: "<script",
+        shows: "<h1>file schedule leak</h1>\n<p><b class=\"badge\">IMPOSSIBLE</b> A line of the schedule can't be taken.</p>\n",
+        hides: "SAFE",
     },
     Row {
         words: "file schedule list",
         file: SMALL,
         status: 1,
-        shows: "<div><code>Top</code>: null &rarr; 3</div>",
+        shows: "<div><code>Top</code>: null \u{2192} 3</div>",
         hides: "dangl",
     },
     Row {

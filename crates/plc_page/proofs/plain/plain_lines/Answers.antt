@@ -1,0 +1,5 @@
+use Rattle.plc_page.proofs.Showing.{if_counted}
+use Rattle.plc_page.proofs.plain.plain_lines.Goals as goal
+
+pub returns-in-Ok : goal.returns-in-Ok
+returns-in-Ok c = if_counted c.loaded_lines.result c.args.bytes.now c.in-Ok.judged c.in-Ok.ensures.loaded c.loaded_lines.ensures
