@@ -1,11 +1,6 @@
 // The answer as lines for editors and tools, each `NAME:LINE: SENTENCE`.
-<<<<<<< ours
-ghost use Rattle.std.specs.Prelude.{◌≤◌, length};
-ghost use Rattle.plc_base.specs.FileSizes.{largest_file};
-=======
 ghost use Rattle.std.specs.Prelude.{◌≡◌, ◌≢◌, ◌≤◌, IfOk, length};
-ghost use Rattle.plc_base.specs.Limits.{largest_file};
->>>>>>> theirs
+ghost use Rattle.plc_base.specs.FileSizes.{largest_file};
 ghost use Rattle.plc_setting.specs.Fit.{Fits};
 ghost use Rattle.plc_check.specs.declared.judged.LoadFault.TheVariants.{Memory};
 ghost use Rattle.plc_cli.specs.Statuses.{refused};

@@ -1,6 +1,6 @@
 -- What `plc-show` does: with any reclaimers, and with those of `plc`.
 use Rattle.std.specs.Prelude.{◌≡◌, ◌≤◌, ◌⊎◌, ℕ, List, [], Option, Some, None, slice_get}
-use Rattle.plc_base.specs.Limits.{largest_schedule}
+use Rattle.plc_base.specs.FileSizes.{largest_schedule}
 use Rattle.plc_outside.specs.Known.{KnownFiles, KnownSink}
 use Rattle.plc_outside.specs.Outside.{Appends}
 use Rattle.plc_reclaim.specs.Meanings.{Meanings}

@@ -1,7 +1,7 @@
 // One way through the program: words, reads, page, write. What can't be read or asked is answered as `plc` answers it.
 // Nothing is written before the whole text is there.
 ghost use Rattle.std.specs.Prelude.{◌≡◌, ◌≤◌, None, IfOk, length, map, string_bytes};
-ghost use Rattle.plc_base.specs.Limits.{largest_file, largest_schedule};
+ghost use Rattle.plc_base.specs.FileSizes.{largest_file, largest_schedule};
 ghost use Rattle.plc_cli.specs.Reads.{FilesAreKept, IsDueForFile, IsDueForPair};
 ghost use Rattle.plc_page.specs.Pages.{HasCheckStatus, ShowsCheck};
 ghost use Rattle.plc_trace.specs.Pages.{ShowsReplay};
