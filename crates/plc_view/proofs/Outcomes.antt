@@ -12,7 +12,7 @@ use Rattle.plc_cli.proofs.TwoReads.{unread_status, unread_pair_status}
 use Rattle.plc_page.specs.Pages.{HasCheckStatus, ShowsCheck}
 use Rattle.plc_trace.specs.Pages.{ShowsReplay}
 use Rattle.plc_view.specs.Requests.{Request, Page, Lines, Run}
-use Rattle.plc_view.specs.Showing.{IsDueFor, Outcome, page}
+use Rattle.plc_view.specs.Showing.{IsDueFor, page}
 
 module _ (status : ℕ) (text : List ℕ) where
   page_low : (title bytes : List ℕ) → ShowsCheck title bytes (page status text) → status ≤ 3
@@ -41,7 +41,7 @@ module _ (status : ℕ) (text : List ℕ) where
       omega (arith, unread_pair_status status text _ _ _ _ _ none)
   pair_low old new first second most Answers low (inr due) = omega (arith, low due.0 due.1 due.3)
 
-  due_low : (reclaimers : List Meanings) (request : Option Request) (old new : KnownFiles)
+  pub due_low : (reclaimers : List Meanings) (request : Option Request) (old new : KnownFiles)
       → IsDueFor reclaimers request old new status text → status ≤ 4
   due_low reclaimers None old new refused = omega (arith, refused.status_is)
   due_low reclaimers (Some (Page name)) old new due = file_low _ _ _ _ (page_low name) due
@@ -49,38 +49,28 @@ module _ (status : ℕ) (text : List ℕ) where
   due_low reclaimers (Some (Run file schedule name number)) old new run =
       pair_low _ _ _ _ _ _ (run_low _ run.reclaimer) run.due
 
-  module _ (reclaimers : List Meanings) (request : Option Request) (old new : KnownFiles)
-      (due : IsDueFor reclaimers request old new status text) (sink sink_now : KnownSink) where
-    low : status ≤ 4
-    low = due_low reclaimers request old new due
-
-    -- the due text was written as far as this says
-    written_so : (result : ℕ) → Ends status text sink sink_now result
-        → Outcome reclaimers request old new sink sink_now result
-    written_so result ends = inr (record { status = status; text = text; due = due; ends = ends })
-
-    pub all_written : Appends sink.written sink_now.written text →
-        Outcome reclaimers request old new sink sink_now status
-    all_written a = written_so status (record {
+  -- what a write comes to
+  module _ (low : status ≤ 4) (sink sink_now : KnownSink) where
+    pub all_written : Appends sink.written sink_now.written text → Ends status text sink sink_now status
+    all_written a = record {
       only = inl refl;
       whole = λ e. a;
       failed = λ e. absurd (omega (arith, low, e));
       memory = λ e. absurd (omega (arith, low, e));
-    })
+    }
 
-    pub part_written : IsUnwritten text sink sink_now → Outcome reclaimers request old new sink sink_now unwritten
-    part_written a = written_so unwritten (record {
+    pub part_written : IsUnwritten text sink sink_now → Ends status text sink sink_now unwritten
+    part_written a = record {
       only = inr (inl refl);
       whole = λ e. absurd (omega (arith, low, e));
       failed = λ e. a;
       memory = λ e. absurd (omega (arith, e));
-    })
+    }
 
-    pub memory_ran_out : AppendsPart sink.written sink_now.written text →
-        Outcome reclaimers request old new sink sink_now no_memory
-    memory_ran_out a = written_so no_memory (record {
+    pub memory_ran_out : AppendsPart sink.written sink_now.written text → Ends status text sink sink_now no_memory
+    memory_ran_out a = record {
       only = inr (inr refl);
       whole = λ e. absurd (omega (arith, low, e));
       failed = λ e. absurd (omega (arith, e));
       memory = λ e. a;
-    })
+    }

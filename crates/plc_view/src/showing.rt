@@ -1,18 +1,20 @@
-// One way through the program: words, reads, page, write. What can't be read or asked is answered as `plc` answers it.
-// Nothing is written before the whole text is there.
+// One way through the program: words, reads, page, write. What can't be read or asked is told as `plc` tells it, and goes
+// to a sink of its own, so that a page's file never holds it. Nothing is written before the whole text is there.
 ghost use Rattle.std.specs.Prelude.{◌≡◌, ◌≤◌, None, IfOk, length, map, string_bytes};
 ghost use Rattle.plc_base.specs.FileSizes.{largest_file, largest_schedule};
+ghost use Rattle.plc_cli.specs.Answer.{Ends};
 ghost use Rattle.plc_cli.specs.Reads.{FilesAreKept, IsDueForFile, IsDueForPair};
+ghost use Rattle.plc_cli.specs.Statuses.{unread};
 ghost use Rattle.plc_page.specs.Pages.{HasCheckStatus, ShowsCheck};
 ghost use Rattle.plc_trace.specs.Pages.{ShowsReplay};
 ghost use Rattle.plc_view.specs.Requests.{request_of, title_of};
-ghost use Rattle.plc_view.specs.Showing.{IsDueFor, Shows, page};
+ghost use Rattle.plc_view.specs.Showing.{IsDueFor, IsPut, Shows, outputs, page};
 
 use crate::words::{Request, request_of};
 use plc_base::{LARGEST_FILE, LARGEST_SCHEDULE, NoMemory};
 use plc_cli::{
-    Answer, Content, Contents, Files, NO_MEMORY, Reclaimer, Sink, SinkFault, UNWRITTEN, read,
-    read_both, words_refusal, write_text,
+    Answer, Content, Contents, Files, NO_MEMORY, REFUSED, Reclaimer, Sink, SinkFault, UNWRITTEN,
+    read, read_both, words_refusal, write_text,
 };
 use plc_page::{Page, file_page, plain_lines};
 use plc_trace::replay_page;
@@ -169,25 +171,51 @@ fn answer_to<F: Files>(
     }
 }
 
+/// The status, after an answer was written.
+fn put<S: Sink>(out: &mut S, answer: &Answer) -> u8
+    requires { answer.now.status ≤ unread }
+    ensures ends { Ends answer.now.status answer.now.text.items (S.known out.old) (S.known out.new) result }
+    ensures kept { (S.known out.old).faults ≤ (S.known out.new).faults }
+{
+    match write_text(out, &answer.text) {
+        Ok(()) => answer.status,
+        Err(SinkFault::Failed) => UNWRITTEN,
+        Err(SinkFault::Memory) => NO_MEMORY,
+    }
+}
+
+/// The status, after an answer was written, or what keeps from one.
+fn put_apart<S: Sink, T: Sink>(out: &mut S, causes: &mut T, answer: &Answer) -> u8
+    requires { answer.now.status ≤ unread }
+    ensures put { IsPut answer.now.status answer.now.text.items
+        (outputs (S.known out.old) (T.known causes.old)) (outputs (S.known out.new) (T.known causes.new)) result }
+    ensures kept { (S.known out.old).faults ≤ (S.known out.new).faults }
+    ensures causes_kept { (T.known causes.old).faults ≤ (T.known causes.new).faults }
+{
+    if answer.status > REFUSED {
+        put(causes, answer)
+    } else {
+        put(out, answer)
+    }
+}
+
 /// All that the program does with these reclaimers, of which those of one name the first counts: the status, after the
 /// page or the lines were written.
-pub(crate) fn show_under<F: Files, S: Sink>(
+pub(crate) fn show_under<F: Files, S: Sink, T: Sink>(
     alloc: Global,
     words: &[String],
     files: &mut F,
     out: &mut S,
+    causes: &mut T,
     mut reclaimers: Vec<Box<dyn Reclaimer>>,
 ) -> u8
     ensures { Shows (map meanings reclaimers.items)
         (request_of (map named reclaimers.items) (map string_bytes words.now))
-        (F.known files.old) (F.known files.new) (S.known out.old) (S.known out.new) result }
+        (F.known files.old) (F.known files.new)
+        (outputs (S.known out.old) (T.known causes.old)) (outputs (S.known out.new) (T.known causes.new)) result }
 {
     match answer_to(alloc, words, files, &mut reclaimers) {
         Err(NoMemory) => NO_MEMORY,
-        Ok(answer) => match write_text(out, &answer.text) {
-            Ok(()) => answer.status,
-            Err(SinkFault::Failed) => UNWRITTEN,
-            Err(SinkFault::Memory) => NO_MEMORY,
-        },
+        Ok(answer) => put_apart(out, causes, &answer),
     }
 }

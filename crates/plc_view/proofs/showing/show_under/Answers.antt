@@ -1,55 +1,34 @@
-use Rattle.std.proofs.Common.{◌<◌, length, Err, ap, subst, inl, refl, arith}
-use Rattle.plc_outside.specs.Outside.{Appends, AppendsPart}
-use Rattle.plc_cli.proofs.Statuses.{nothing_written}
-use Rattle.plc_view.proofs.Outcomes.{all_written, part_written, memory_ran_out}
+use Rattle.std.proofs.Common.{inl, inr, refl, arith}
+use Rattle.plc_view.proofs.Outcomes.{due_low}
 use Rattle.plc_view.proofs.showing.show_under.Goals as goal
 
--- the whole text was written
-pub returns-in-Ok-write_text : goal.returns-in-Ok-write_text
-returns-in-Ok-write_text g c = record {
-  outcome =
-      all_written c.in-Ok.answer.status c.in-Ok.answer.text.items _ _ _ _
-      (rw c.deref_mut.ensures.value at c.in-Ok.ensures.due) _ _
-      (subst (Appends _ _) c.deref.ensures.value c.in-Ok-write_text.ensures.ok);
-  untouched = rw c.deref_mut.ensures.value at c.in-Ok.ensures.untouched;
-  files_kept = c.in-Ok.ensures.kept;
-  count_kept = c.write_text.ensures.cause.later;
-}
+pub put_apart-requires : goal.put_apart-requires
+put_apart-requires g c =
+    due_low c.in-Ok.answer.status c.in-Ok.answer.text.items _ _ _ _
+    (rw c.deref_mut.ensures.value at c.in-Ok.ensures.due)
 
--- the sink failed
-pub returns-in-Err-Failed : goal.returns-in-Err-Failed
-returns-in-Err-Failed g c = record {
+-- a text was made, and written as far as it went
+pub returns-in-Ok : goal.returns-in-Ok
+returns-in-Ok g c = record {
   outcome =
-      part_written c.in-Ok.answer.status c.in-Ok.answer.text.items _ _ _ _
-      (rw c.deref_mut.ensures.value at c.in-Ok.ensures.due) _ _
-      (record {
-        part = subst (AppendsPart _ _) c.deref.ensures.value c.in-Err-Failed.ensures.err;
-        rose = c.write_text.ensures.cause.failed (rw c.in-Err-Failed.is (ap Err c.in-Err-Failed.field-0-is));
-        room = subst (λ text. (g.S.Sink.known c.args.out.now).room < length text) c.deref.ensures.value
-            (c.write_text.ensures.room (rw c.in-Err-Failed.is (ap Err c.in-Err-Failed.field-0-is)));
+      inr (record {
+        status = c.in-Ok.answer.status;
+        text = c.in-Ok.answer.text.items;
+        due = rw c.deref_mut.ensures.value at c.in-Ok.ensures.due;
+        put = c.put_apart.ensures.put;
       });
   untouched = rw c.deref_mut.ensures.value at c.in-Ok.ensures.untouched;
   files_kept = c.in-Ok.ensures.kept;
-  count_kept = c.write_text.ensures.cause.later;
-}
-
--- memory ran out in the sink
-pub returns : goal.returns
-returns g c = record {
-  outcome =
-      memory_ran_out c.in-Ok.answer.status c.in-Ok.answer.text.items _ _ _ _
-      (rw c.deref_mut.ensures.value at c.in-Ok.ensures.due) _ _
-      (subst (AppendsPart _ _) c.deref.ensures.value c.in-Err-Memory.ensures.err);
-  untouched = rw c.deref_mut.ensures.value at c.in-Ok.ensures.untouched;
-  files_kept = c.in-Ok.ensures.kept;
-  count_kept = c.write_text.ensures.cause.later;
+  count_kept = c.put_apart.ensures.kept;
+  causes_kept = c.put_apart.ensures.causes_kept;
 }
 
 -- memory ran out before there was a text
 pub returns-in-Err : goal.returns-in-Err
 returns-in-Err g c = record {
-  outcome = inl (refl, nothing_written _);
+  outcome = inl (record { status_is = refl; unwritten = refl });
   untouched = rw c.deref_mut.ensures.value at c.answer_to.ensures.untouched;
   files_kept = c.answer_to.ensures.kept;
   count_kept = omega arith;
+  causes_kept = omega arith;
 }
