@@ -37,9 +37,7 @@ fn show_with<F: Files, S: Sink, T: Sink>(
     ensures no_cause { OnErr result (T.known causes.new ≡ T.known causes.old) }
 {
     let reclaimers = vec![in alloc; leak, list, hazard, epoch]?;
-    Ok(show_under(
-        alloc, words, files, out, causes, reclaimers,
-    ))
+    Ok(show_under(alloc, words, files, out, causes, reclaimers))
 }
 
 /// The same, where there is memory for the four.
@@ -61,9 +59,7 @@ fn show_made<F: Files, S: Sink, T: Sink>(
     let list = Box::new(alloc, ByList::new(alloc))?;
     let hazard = Box::new(alloc, Hazard::new(alloc))?;
     let epoch = Box::new(alloc, Epoch::new(alloc))?;
-    show_with(
-        alloc, words, files, out, causes, leak, list, hazard, epoch,
-    )
+    show_with(alloc, words, files, out, causes, leak, list, hazard, epoch)
 }
 
 /// All that the program does: the status, after the page or the lines were written to `out`. `words` are those after the
