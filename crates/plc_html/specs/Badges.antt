@@ -2,8 +2,8 @@
 use Rattle.std.specs.Prelude.{ℕ, ◌==◌, ◌&&◌, if◌then◌else◌, List, [], ◌∷◌, ◌++◌, codes, nat_eq}
 use Rattle.std.specs.List.{starts_with}
 use Rattle.plc_html.specs.declared.badges.Badge.{Badge}
-use Rattle.plc_html.specs.declared.badges.Badge.TheVariants.{Safe, Ended, Untyped, Unproved, Race, Impossible, Forbidden}
-use Rattle.plc_html.specs.declared.badges.Badge.TheVariants.{Refused, Other}
+use Rattle.plc_html.specs.declared.badges.Badge.TheVariants.{Safe, Ended, Untyped, Unproved, Race, Impossible}
+use Rattle.plc_html.specs.declared.badges.Badge.TheVariants.{Forbidden, Refused, Other}
 
 -- a status, the first word of an answer with the blank behind it, and their badge
 unfoldable pub badges : List (ℕ × List ℕ × Badge)

@@ -1,5 +1,5 @@
-// The tags of a page's parts that have no numbers, so that a caller writes markup as it reads. What isn't here is no tag,
-// but text.
+// The tags of a page's parts that have no numbers, so that a caller writes markup as it reads. What isn't here is no
+// tag, but text.
 ghost use Rattle.std.specs.Prelude.{◌≡◌, map, option_map};
 ghost use Rattle.plc_html.specs.Tags.{tags};
 ghost use Rattle.plc_html.specs.Fragments.{listed_tag};

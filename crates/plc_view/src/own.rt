@@ -62,10 +62,10 @@ fn show_made<F: Files, S: Sink, T: Sink>(
     show_with(alloc, words, files, out, causes, leak, list, hazard, epoch)
 }
 
-/// All that the program does: the status, after the page or the lines were written to `out`. `words` are those after the
-/// program's name. Where they are of no listed form, or a file can't be read, that is written to `causes` in their
-/// place. A run is shown under `leak`, `list`, `hazard` or `epoch`, each of which acts as its row; where memory runs out
-/// for them it ends with 6, and nothing is read or written.
+/// All that the program does: the status, after the page or the lines were written to `out`. `words` are those after
+/// the program's name. Where they are of no listed form, or a file can't be read, that is written to `causes` in their
+/// place. A run is shown under `leak`, `list`, `hazard` or `epoch`, each of which acts as its row; where memory runs
+/// out for them it ends with 6, and nothing is read or written.
 pub fn show<F: Files, S: Sink, T: Sink>(
     alloc: Global,
     words: &[String],

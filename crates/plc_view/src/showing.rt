@@ -1,5 +1,5 @@
-// One way through the program: words, reads, page, write. What can't be read or asked is told as `plc` tells it, and goes
-// to a sink of its own, so that a page's file never holds it. Nothing is written before the whole text is there.
+// One way through the program: words, reads, page, write. What can't be read or asked is told as `plc` tells it, and
+// goes to a sink of its own, so that a page's file never holds it. Nothing is written before the whole text is there.
 ghost use Rattle.std.specs.Prelude.{◌≡◌, ◌≤◌, None, IfOk, length, map, string_bytes};
 ghost use Rattle.plc_base.specs.FileSizes.{largest_file, largest_schedule};
 ghost use Rattle.plc_cli.specs.Answer.{Ends};

@@ -62,15 +62,16 @@ const ROWS: [Row; 14] = [
         words: "file",
         file: SMALL,
         status: 0,
-        shows: "</details>\n<details id=\"answer\"><summary>The answer in full</summary>\n<pre class=\"answer\">safe points 5 \
-                steps 4 locations 2 obligations 0\n</pre>\n</details>\n</body>",
+        shows: "</details>\n<details id=\"answer\"><summary>The answer in full</summary>\n<pre class=\"answer\">\
+                safe points 5 steps 4 locations 2 obligations 0\n</pre>\n</details>\n</body>",
         hides: "src=",
     },
     Row {
         words: "file",
         file: MARKUP,
         status: 1,
-        shows: "// &lt;/td&gt;&lt;script&gt;alert(&#39;1&#39;)&lt;/script&gt;&lt;img src=&quot;x&quot; onerror=alert(2)&gt;",
+        shows: "// &lt;/td&gt;&lt;script&gt;alert(&#39;1&#39;)&lt;/script&gt;&lt;img src=&quot;x&quot; \
+                onerror=alert(2)&gt;",
         hides: "<script",
     },
     Row {
@@ -119,7 +120,8 @@ const ROWS: [Row; 14] = [
         words: "file schedule leak",
         file: SMALL,
         status: 1,
-        shows: "<h1>file schedule leak</h1>\n<p><b class=\"badge\">IMPOSSIBLE</b> A line of the schedule can't be taken.</p>\n",
+        shows: "<h1>file schedule leak</h1>\n<p><b class=\"badge\">IMPOSSIBLE</b> A line of the \
+                schedule can't be taken.</p>\n",
         hides: "SAFE",
     },
     Row {
