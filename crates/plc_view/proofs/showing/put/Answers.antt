@@ -21,7 +21,7 @@ returns-in-Err-Failed-clause-ends g c =
     })
 
 -- memory ran out in the sink
-pub returns-clause-ends : goal.returns-clause-ends
-returns-clause-ends g c =
+pub returns-in-Err-Memory-clause-ends : goal.returns-in-Err-Memory-clause-ends
+returns-in-Err-Memory-clause-ends g c =
     memory_ran_out c.args.answer.now.status c.args.answer.now.text.items c.requires _ _
     (subst (AppendsPart _ _) c.deref.ensures.value c.in-Err-Memory.ensures.err)

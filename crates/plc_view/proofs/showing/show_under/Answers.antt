@@ -4,12 +4,11 @@ use Rattle.plc_view.proofs.showing.show_under.Goals as goal
 
 pub put_apart-requires : goal.put_apart-requires
 put_apart-requires g c =
-    due_low c.in-Ok.answer.status c.in-Ok.answer.text.items _ _ _ _
-    (rw c.deref_mut.ensures.value at c.in-Ok.ensures.due)
+    due_low c.in-Ok.answer.status c.in-Ok.answer.text.items _ _ _ _ c.in-Ok.ensures.due
 
 -- a text was made, and written as far as it went
-pub returns-in-Ok : goal.returns-in-Ok
-returns-in-Ok g c = record {
+pub returns : goal.returns
+returns g c = record {
   outcome =
       inr (record {
         status = c.in-Ok.answer.status;
