@@ -1,10 +1,16 @@
-use Rattle.std.proofs.Common.{inl, inr, refl, arith}
+use Rattle.std.proofs.Common.{inl, inr, map, refl, arith}
+use Rattle.std.specs.Prelude.{string_bytes}
+use Rattle.plc_view.specs.Requests.{request_of}
 use Rattle.plc_view.proofs.Outcomes.{due_low}
 use Rattle.plc_view.proofs.showing.show_under.Goals as goal
 
 pub put_apart-requires : goal.put_apart-requires
 put_apart-requires g c =
-    due_low c.in-Ok.answer.status c.in-Ok.answer.text.items _ _ _ _ c.in-Ok.ensures.due
+    let meanings = map (λ b. (goal.Reclaimer-dyn g (b.vtable, b.value)).meanings b.value) c.deref_mut.result.now in
+    let names = map (λ b. (goal.Reclaimer-dyn g (b.vtable, b.value)).named b.value) c.deref_mut.result.now in
+    due_low c.in-Ok.answer.status c.in-Ok.answer.text.items meanings
+    (request_of names (map string_bytes c.args.words.now)) (g.F.Files.known c.args.files.now)
+    (g.F.Files.known c.answer_to.new.files) c.in-Ok.ensures.due
 
 -- a text was made, and written as far as it went
 pub returns : goal.returns
