@@ -41,11 +41,19 @@ fn hunt_status<F: Files>(alloc: Global, words: &[String], files: &mut F, out: &m
     status
 }
 
+/// The status that words end with for `plc-show`; what it tells in place of an answer is let go.
+fn show_status<F: Files>(alloc: Global, words: &[String], files: &mut F, out: &mut VecSink) -> u8 {
+    let mut causes = VecSink::new(alloc);
+    let status = show(alloc, words, files, out, &mut causes);
+    drop(causes);
+    status
+}
+
 /// The status that words end with: those after `show` are for `plc-show`, those after `hunt` for `plc-hunt`, others for
 /// `plc`.
 fn status_of<F: Files>(alloc: Global, words: &[String], files: &mut F, out: &mut VecSink) -> u8 {
     match words {
-        [first, others @ ..] if first.as_str() == "show" => show(alloc, others, files, out),
+        [first, others @ ..] if first.as_str() == "show" => show_status(alloc, others, files, out),
         [first, others @ ..] if first.as_str() == "hunt" => hunt_status(alloc, others, files, out),
         _ => run_with_own(alloc, words, files, out),
     }

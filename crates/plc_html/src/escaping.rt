@@ -1,14 +1,15 @@
 // What stands for a text in a page. Bytes from 128 on stay as they are: they spell the letters of other languages in
 // comments, and none of them is a byte of markup.
-ghost use Rattle.std.specs.Prelude.{◌≡◌, ℕ, List, OnOk, ◌++◌, false};
+ghost use Rattle.std.specs.Prelude.{◌≡◌, ℕ, List, OnErr, OnOk, ◌++◌, false};
 ghost use Rattle.std.specs.List.{list_any};
 ghost use Rattle.plc_html.specs.Escaping.{escaped, escaped_byte, is_markup};
 
 use std::alloc::AllocError;
 
-/// Adds what stands for a byte.
-fn push_escaped(out: &mut Vec<u8>, byte: u8) -> Result<(), AllocError>
-    ensures { OnOk result (out.new.items ≡ out.old.items ++ escaped_byte byte) }
+/// Adds what stands for a byte. Where memory runs out nothing is added.
+pub(crate) fn push_escaped(out: &mut Vec<u8>, byte: u8) -> Result<(), AllocError>
+    ensures ok { OnOk result (out.new.items ≡ out.old.items ++ escaped_byte byte) }
+    ensures err { OnErr result (out.new.items ≡ out.old.items) }
 {
     match byte {
         b'&' => out.extend_from_slice(b"&amp;"),

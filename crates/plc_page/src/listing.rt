@@ -1,9 +1,9 @@
 // The file line by line, with the steps that each line makes. Steps are sorted by their lines first, so that each line
 // takes those that come next.
-use crate::shown::{Shown, Written, push_link};
+use crate::shown::{Shown, Written, push_point_link};
 use plc_base::{NoMemory, StepId};
 use plc_flow::{Flow, Step};
-use plc_html::Html;
+use plc_html::{Html, Tag};
 use plc_words::nth_of;
 use std::alloc::Global;
 
@@ -21,9 +21,9 @@ fn steps_by_line(alloc: Global, flow: &Flow) -> Result<Vec<(u32, u16)>, NoMemory
 
 /// A step: its number, by which number a schedule takes it, and where it leads.
 fn push_step(html: &mut Html, flow: &Flow, number: u16, step: &Step) -> Written {
-    push_link(html, "p", "", u32::from(step.from.0))?;
-    html.markup(" &rarr; ")?;
-    push_link(html, "p", "", u32::from(step.to.0))?;
+    push_point_link(html, step.from.0)?;
+    html.markup(" \u{2192} ")?;
+    push_point_link(html, step.to.0)?;
     html.numbered(" (step ", u64::from(number))?;
     html.numbered(", K ", u64::from(nth_of(flow, StepId(number))))?;
     html.markup(")")
@@ -64,13 +64,13 @@ fn push_line(
     text: &[u8],
     here: bool,
 ) -> Result<usize, NoMemory> {
-    let row = if here {
-        "<tr class=\"here\" id=\"L"
+    let number = u64::from(line);
+    html.tag(if here {
+        Tag::RowOfLineHere { number }
     } else {
-        "<tr id=\"L"
-    };
-    html.numbered(row, u64::from(line))?;
-    html.numbered("\"><td>", u64::from(line))?;
+        Tag::RowOfLine { number }
+    })?;
+    html.numbered("<td>", number)?;
     html.markup("</td><td>")?;
     html.text(text.strip_suffix(b"\r").unwrap_or(text))?;
     html.markup("</td><td class=\"steps\">")?;

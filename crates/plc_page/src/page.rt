@@ -1,23 +1,22 @@
-// The page of a file: the answer, what it is about, the file, and its points. What follows the answer is made apart,
-// so that the page shows the answer whatever is said of it.
+// The page of a file: the badge, what the answer is about, the file, its points, and the answer. What stands between
+// badge and answer is made apart, so that the page shows both whatever is said of them.
 ghost use Rattle.std.specs.Prelude.{◌≡◌, ◌≤◌, IfOk, length};
 ghost use Rattle.plc_base.specs.FileSizes.{largest_file};
 ghost use Rattle.plc_flow.specs.Skeleton.{skeleton_of};
 ghost use Rattle.plc_setting.specs.Fit.{Fits};
 ghost use Rattle.plc_xfer.specs.Typings.{IsStrongest};
-ghost use Rattle.plc_page.specs.Pages.{ShowsCheck, SaysVerdict, ShowsVerdict, SaysRefusal};
+ghost use Rattle.plc_page.specs.Pages.{ShowsAnswer, ShowsCheck, SaysVerdict, ShowsVerdict, SaysRefusal};
 
 use crate::listing::{push_file, push_listing};
 use crate::points::push_points;
 use crate::refused::line_of_refusal;
-use crate::safe::push_safe;
 use crate::shown::{Shown, Written};
 use crate::unproved::{MOST_SHOWN, push_unproved};
 use crate::untyped::push_failure;
 use plc_base::{Items, NoMemory};
 use plc_check::{Judged, LoadFault, Verdict, check, load, open_obligations};
 use plc_cli::{refusal, verdict_status, verdict_text};
-use plc_html::{Html, whole_page};
+use plc_html::{Html, Subject, whole_page};
 use plc_infer::{Typing, pretyping};
 use plc_lex::tokens;
 use plc_texts::line_of;
@@ -29,6 +28,18 @@ use std::alloc::Global;
 pub struct Page {
     pub status: u8,
     pub bytes: Items<u8>,
+}
+
+/// The page of an answer: its badge and its sentence, this part, and the answer. The one error is that memory runs out.
+pub fn page_of(alloc: Global, subject: Subject, part: &Html) -> Result<Page, NoMemory>
+    ensures { IfOk result (ShowsAnswer subject.entry.title.now subject.entry.status subject.entry.answer.now) }
+{
+    let nothing = Html::new(alloc);
+    let page = whole_page(alloc, subject, part, &nothing)?;
+    Ok(Page {
+        status: subject.status,
+        bytes: Items::from_vec(page),
+    })
 }
 
 /// The line of the primitive that has no typing, or 0.
@@ -46,7 +57,7 @@ fn push_reasons(html: &mut Html, shown: &Shown, verdict: &Verdict) -> Written
         shown.now.typing.now.env }
 {
     match verdict {
-        Verdict::Safe { .. } => push_safe(html),
+        Verdict::Safe { .. } => Ok(()),
         Verdict::Untyped { step, prim, fault } => push_failure(html, shown, *step, *prim, *fault),
         Verdict::Unproved { .. } => {
             let open = open_obligations(html.alloc(), shown.judged, MOST_SHOWN)?;
@@ -55,7 +66,7 @@ fn push_reasons(html: &mut Html, shown: &Shown, verdict: &Verdict) -> Written
     }
 }
 
-/// All that follows the answer.
+/// All that stands before the answer.
 fn push_all(html: &mut Html, shown: &Shown, verdict: &Verdict) -> Written
     requires fits { Fits shown.now.judged.now.flow shown.now.judged.now.unit_outline }
     requires strongest { IsStrongest shown.now.judged.now.observer (skeleton_of shown.now.judged.now.flow)
@@ -84,7 +95,7 @@ struct Answered<'a> {
     verdict: &'a Verdict,
 }
 
-/// What follows the answer.
+/// What stands before the answer.
 fn rest_of(alloc: Global, answered: Answered) -> Result<Html, NoMemory>
     requires short { length answered.bytes.now ≤ largest_file }
     requires fits { Fits answered.judged.now.flow answered.judged.now.unit_outline }
@@ -107,22 +118,23 @@ fn rest_of(alloc: Global, answered: Answered) -> Result<Html, NoMemory>
 fn verdict_page(alloc: Global, name: &[u8], answered: Answered) -> Result<Page, NoMemory>
     requires short { length answered.bytes.now ≤ largest_file }
     requires fits { Fits answered.judged.now.flow answered.judged.now.unit_outline }
-    ensures { IfOk result (SaysVerdict answered.entry.judged.now answered.entry.verdict.now) }
+    ensures { IfOk result (SaysVerdict name.now answered.entry.judged.now answered.entry.verdict.now) }
 {
     let text = verdict_text(alloc, answered.judged, answered.verdict)?;
     let rest = rest_of(alloc, answered)?;
-    let page = whole_page(alloc, name, &text, rest)?;
-    Ok(Page {
+    let subject = Subject {
+        title: name,
         status: verdict_status(answered.verdict),
-        bytes: Items::from_vec(page),
-    })
+        answer: &text,
+    };
+    page_of(alloc, subject, &rest)
 }
 
 /// The page of a file that was loaded.
 fn judged_page(alloc: Global, name: &[u8], bytes: &[u8], judged: &Judged) -> Result<Page, NoMemory>
     requires short { length bytes.now ≤ largest_file }
     requires fits { Fits judged.now.flow judged.now.unit_outline }
-    ensures { IfOk result (ShowsVerdict judged.now) }
+    ensures { IfOk result (ShowsVerdict name.now judged.now) }
 {
     let verdict = check(alloc, judged)?;
     let answered = Answered {
@@ -139,7 +151,7 @@ fn judged_page(alloc: Global, name: &[u8], bytes: &[u8], judged: &Judged) -> Res
 fn loaded_page(alloc: Global, name: &[u8], bytes: &[u8], judged: Judged) -> Result<Page, NoMemory>
     requires short { length bytes.now ≤ largest_file }
     requires fits { Fits judged.flow judged.unit_outline }
-    ensures { IfOk result (ShowsVerdict judged) }
+    ensures { IfOk result (ShowsVerdict name.now judged) }
 {
     let page = judged_page(alloc, name, bytes, &judged);
     drop(judged);
@@ -154,23 +166,24 @@ pub fn refused_page(
     bytes: &[u8],
     fault: &LoadFault,
 ) -> Result<Page, NoMemory>
-    ensures { IfOk result (SaysRefusal fault.now) }
+    ensures { IfOk result (SaysRefusal name.now fault.now) }
 {
     let answer = refusal(alloc, fault)?;
     let mut rest = Html::new(alloc);
     push_file(&mut rest, bytes, line_of_refusal(bytes, fault))?;
-    let page = whole_page(alloc, name, &answer.text, rest)?;
-    Ok(Page {
+    let subject = Subject {
+        title: name,
         status: answer.status,
-        bytes: Items::from_vec(page),
-    })
+        answer: &answer.text,
+    };
+    page_of(alloc, subject, &rest)
 }
 
-/// The page of a file, by its bytes: the answer of `check`, what it is about, the file, and its points. `name` is the
-/// title. The one error is that memory runs out.
+/// The page of a file, by its bytes: the badge and the sentence of what `check` answers, what that is about, the file,
+/// its points, and the answer. `name` is the title. The one error is that memory runs out.
 pub fn file_page(alloc: Global, name: &[u8], bytes: &[u8]) -> Result<Page, NoMemory>
     requires { length bytes.now ≤ largest_file }
-    ensures { IfOk result (ShowsCheck bytes.now) }
+    ensures { IfOk result (ShowsCheck name.now bytes.now) }
 {
     match load(alloc, bytes) {
         Ok(judged) => loaded_page(alloc, name, bytes, judged),

@@ -1,7 +1,10 @@
 // The answer as lines for editors and tools, each `NAME:LINE: SENTENCE`.
-ghost use Rattle.std.specs.Prelude.{◌≤◌, length};
+ghost use Rattle.std.specs.Prelude.{◌≡◌, ◌≢◌, ◌≤◌, IfOk, length};
 ghost use Rattle.plc_base.specs.FileSizes.{largest_file};
 ghost use Rattle.plc_setting.specs.Fit.{Fits};
+ghost use Rattle.plc_check.specs.declared.judged.LoadFault.TheVariants.{Memory};
+ghost use Rattle.plc_cli.specs.Statuses.{refused};
+ghost use Rattle.plc_page.specs.Pages.{HasCheckStatus, HasVerdictStatus};
 
 use crate::page::clauses_in;
 use crate::refused::line_of_refusal;
@@ -198,6 +201,7 @@ fn push_verdict(
 fn judged_lines(alloc: Global, file: Named, judged: &Judged) -> Result<Lines, NoMemory>
     requires short { length file.bytes.now ≤ largest_file }
     requires fits { Fits judged.now.flow judged.now.unit_outline }
+    ensures { IfOk result (λ lines. HasVerdictStatus judged.now lines.status) }
 {
     let verdict = check(alloc, judged)?;
     let mut text = Vec::new(alloc);
@@ -208,8 +212,22 @@ fn judged_lines(alloc: Global, file: Named, judged: &Judged) -> Result<Lines, No
     })
 }
 
+/// The lines of a file that was loaded, which ends here.
+fn loaded_lines(alloc: Global, file: Named, judged: Judged) -> Result<Lines, NoMemory>
+    requires short { length file.bytes.now ≤ largest_file }
+    requires fits { Fits judged.flow judged.unit_outline }
+    ensures { IfOk result (λ lines. HasVerdictStatus judged lines.status) }
+{
+    let lines = judged_lines(alloc, file, &judged);
+    drop(judged);
+    lines
+}
+
 /// The lines of a file that is refused.
-fn refused_lines(alloc: Global, file: Named, fault: &LoadFault) -> Result<Lines, NoMemory> {
+fn refused_lines(alloc: Global, file: Named, fault: &LoadFault) -> Result<Lines, NoMemory>
+    ensures status { IfOk result (λ lines. lines.status ≡ refused) }
+    ensures told { IfOk result (λ _. fault.now ≢ Memory) }
+{
     let answer = refusal(alloc, fault)?;
     let mut text = Vec::new(alloc);
     push_place(&mut text, file.name, line_of_refusal(file.bytes, fault))?;
@@ -225,14 +243,11 @@ fn refused_lines(alloc: Global, file: Named, fault: &LoadFault) -> Result<Lines,
 /// that memory runs out.
 pub fn plain_lines(alloc: Global, name: &[u8], bytes: &[u8]) -> Result<Lines, NoMemory>
     requires { length bytes.now ≤ largest_file }
+    ensures { IfOk result (λ lines. HasCheckStatus bytes.now lines.status) }
 {
     let file = Named { name, bytes };
     match load(alloc, bytes) {
-        Ok(judged) => {
-            let lines = judged_lines(alloc, file, &judged);
-            drop(judged);
-            lines
-        }
+        Ok(judged) => loaded_lines(alloc, file, judged),
         Err(LoadFault::Memory) => Err(NoMemory),
         Err(fault) => refused_lines(alloc, file, &fault),
     }

@@ -1,9 +1,9 @@
 // Each point of each operation: where it is, which steps leave it, what is known there, and what the outline says.
-use crate::shown::{Shown, Written, push_link, push_sentence};
+use crate::shown::{Shown, Written, push_line_link, push_point_link, push_sentence};
 use crate::types::push_types;
 use plc_base::{OpId, PointId, StepId};
 use plc_flow::{Flow, Gate, Step};
-use plc_html::Html;
+use plc_html::{Html, Tag};
 use plc_lang::operation_name;
 use plc_words::{ClauseId, clauses_at, nth_of, push_point, push_source, push_step};
 
@@ -14,8 +14,8 @@ fn push_leaving(html: &mut Html, flow: &Flow, id: StepId, step: &Step) -> Writte
     html.numbered("<li>K ", u64::from(nth_of(flow, id)))?;
     html.markup(": <code>")?;
     html.text(&words)?;
-    html.markup("</code> &rarr; ")?;
-    push_link(html, "p", "", u32::from(step.to.0))?;
+    html.markup("</code> \u{2192} ")?;
+    push_point_link(html, step.to.0)?;
     html.markup("</li>\n")
 }
 
@@ -42,7 +42,7 @@ pub(crate) fn push_clause(html: &mut Html, shown: &Shown, id: ClauseId) -> Writt
     html.markup("<code>")?;
     html.text(&text)?;
     html.markup("</code> (")?;
-    push_link(html, "L", "line ", placed.line)?;
+    push_line_link(html, "line ", placed.line)?;
     html.markup(")")
 }
 
@@ -67,8 +67,9 @@ fn push_one(html: &mut Html, shown: &Shown, op: usize, point: u16) -> Written {
     let judged = shown.judged;
     let mut words = Vec::new(html.alloc());
     push_point(&mut words, &judged.flow, PointId(point))?;
-    html.numbered("<details id=\"p", u64::from(point))?;
-    html.numbered("\"><summary>point ", u64::from(point))?;
+    let number = u64::from(point);
+    html.tag(Tag::DetailsOfPoint { number })?;
+    html.numbered("<summary>point ", number)?;
     html.markup(": ")?;
     push_sentence(html, &words)?;
     html.markup("</summary>\n")?;

@@ -1,7 +1,7 @@
 // What all parts of a page are about: a file with what is judged of it.
 use plc_base::NoMemory;
 use plc_check::Judged;
-use plc_html::Html;
+use plc_html::{Html, Tag};
 use plc_infer::Typing;
 use plc_words::Clauses;
 
@@ -33,16 +33,18 @@ pub(crate) fn push_sentence(html: &mut Html, words: &[u8]) -> Written {
     Ok(())
 }
 
-/// Adds a link to what has a number: its kind is told by a letter, as `L` for a line and `p` for a point.
-pub(crate) fn push_link(
-    html: &mut Html,
-    letter: &'static str,
-    words: &'static str,
-    number: u32,
-) -> Written {
-    html.markup("<a href=\"#")?;
-    html.numbered(letter, u64::from(number))?;
-    html.markup("\">")?;
-    html.numbered(words, u64::from(number))?;
+/// Adds a link to a point, by its number.
+pub(crate) fn push_point_link(html: &mut Html, point: u16) -> Written {
+    let number = u64::from(point);
+    html.tag(Tag::LinkToPoint { number })?;
+    html.number(number)?;
+    html.markup("</a>")
+}
+
+/// Adds a link to a line of the file, by words and its number.
+pub(crate) fn push_line_link(html: &mut Html, words: &'static str, line: u32) -> Written {
+    let number = u64::from(line);
+    html.tag(Tag::LinkToLine { number })?;
+    html.numbered(words, number)?;
     html.markup("</a>")
 }

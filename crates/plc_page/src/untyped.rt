@@ -5,7 +5,7 @@ ghost use Rattle.plc_setting.specs.Fit.{Fits};
 ghost use Rattle.plc_xfer.specs.Rules.{FitsObserver};
 ghost use Rattle.plc_xfer.specs.Typings.{IsStrongest};
 
-use crate::shown::{Shown, Written, push_link, push_sentence};
+use crate::shown::{Shown, Written, push_line_link, push_sentence};
 use crate::types::push_types;
 use plc_base::{NoMemory, StepId};
 use plc_check::Judged;
@@ -119,7 +119,7 @@ pub(crate) fn push_failure(
     let mut words = Vec::new(html.alloc());
     push_untyped(&mut words, &shown.judged.flow, step, prim, fault)?;
     html.markup("<h2>No typing</h2>\n<p>Line ")?;
-    push_link(html, "L", "", line)?;
+    push_line_link(html, "", line)?;
     html.markup(": ")?;
     push_sentence(html, &words)?;
     html.markup("</p>\n")?;

@@ -9,46 +9,39 @@ use crate::picture::{Name, NodeBox, Picture, Row};
 use crate::pieces::{push_box_number, push_mark, push_value};
 use crate::table::push_names_within;
 use plc_base::NoMemory;
-use plc_html::Html;
+use plc_html::{At, Detour, Html, Tag};
 
 /// Adds the rectangle of a box.
 fn push_frame(html: &mut Html, layout: &Layout, place: Place) -> Result<(), NoMemory> {
-    html.numbered("<rect class=\"box\" x=\"", place.left)?;
-    html.numbered("\" y=\"", line_top(0))?;
-    html.numbered("\" width=\"", place.width)?;
-    html.numbered("\" height=\"", layout.box_height())?;
-    html.markup("\" fill=\"none\" stroke=\"currentColor\"/>\n")
+    html.tag(Tag::Frame {
+        at: At {
+            across: place.left,
+            down: line_top(0),
+        },
+        width: place.width,
+        height: layout.box_height(),
+    })?;
+    html.markup("\n")
 }
 
 /// Adds the line below the names of a box.
 fn push_rule(html: &mut Html, place: Place, line: u64) -> Result<(), NoMemory> {
-    html.numbered("<path class=\"box\" d=\"M", place.left)?;
-    html.numbered(" ", line_top(line))?;
-    html.numbered("H", right_of(place))?;
-    html.markup("\" fill=\"none\" stroke=\"currentColor\"/>\n")
+    html.tag(Tag::Rule {
+        at: At {
+            across: place.left,
+            down: line_top(line),
+        },
+        right: right_of(place),
+    })?;
+    html.markup("\n")
 }
 
-/// Begins an element of a class, which tells what changed by a second class.
-fn begin(html: &mut Html, element: &'static str, changed: bool) -> Result<(), NoMemory> {
-    html.markup(element)?;
-    if changed {
-        html.markup(" changed")?;
+/// Where the text of a line of a box stands.
+fn text_at(place: Place, line: u64) -> At {
+    At {
+        across: text_left(place),
+        down: baseline(line),
     }
-    html.markup("\"")
-}
-
-/// Begins the text of a line of a box.
-fn open_line(
-    html: &mut Html,
-    element: &'static str,
-    changed: bool,
-    place: Place,
-    line: u64,
-) -> Result<(), NoMemory> {
-    begin(html, element, changed)?;
-    html.numbered(" x=\"", text_left(place))?;
-    html.numbered("\" y=\"", baseline(line))?;
-    html.markup("\">")
 }
 
 /// Ends the text of a line, with the signs that a mark is set and that something changed.
@@ -62,21 +55,30 @@ fn close_line(html: &mut Html, marked: bool, changed: bool) -> Result<(), NoMemo
 
 /// Adds the number of a box, as its first line.
 fn push_title(html: &mut Html, number: usize, place: Place) -> Result<(), NoMemory> {
-    open_line(html, "<text class=\"head", false, place, 0)?;
+    html.tag(Tag::NameAt {
+        at: text_at(place, 0),
+        changed: false,
+    })?;
     push_box_number(html, number)?;
     close_line(html, false, false)
 }
 
 /// Adds a name, as a line of a box.
 fn push_name(html: &mut Html, name: &Name, place: Place, line: u64) -> Result<(), NoMemory> {
-    open_line(html, "<text class=\"head", name.changed, place, line)?;
+    html.tag(Tag::NameAt {
+        at: text_at(place, line),
+        changed: name.changed,
+    })?;
     html.text(name.text.as_slice())?;
     close_line(html, name.marked, name.changed)
 }
 
 /// Adds a row, as a line of a box.
 fn push_row(html: &mut Html, row: &Row, place: Place, line: u64) -> Result<(), NoMemory> {
-    open_line(html, "<text class=\"row", row.changed, place, line)?;
+    html.tag(Tag::FieldAt {
+        at: text_at(place, line),
+        changed: row.changed,
+    })?;
     html.text(row.field.as_slice())?;
     push_value(html, &row.value)?;
     close_line(html, row.marked, row.changed)
@@ -114,50 +116,35 @@ fn push_boxes(html: &mut Html, boxes: &[NodeBox], layout: &Layout) -> Result<(),
     Ok(())
 }
 
-/// Begins the line of an arrow, on the right side of its box.
-fn open_arrow(html: &mut Html, arrow: &Arrow, from: Place) -> Result<(), NoMemory> {
-    begin(html, "<path class=\"arrow", arrow.changed)?;
-    html.numbered(
-        " fill=\"none\" stroke=\"currentColor\" d=\"M",
-        right_of(from),
-    )?;
-    html.numbered(" ", line_middle(arrow.line))
-}
-
-/// Ends the line of an arrow and begins its head, whose tip is here.
-fn open_head(html: &mut Html, arrow: &Arrow, across: u64, down: u64) -> Result<(), NoMemory> {
-    html.markup("\"/>\n")?;
-    begin(html, "<path class=\"arrowhead", arrow.changed)?;
-    html.numbered(" d=\"M", across)?;
-    html.numbered(" ", down)
-}
-
-/// Adds an arrow to the next box.
+/// Adds an arrow to the next box: its line and its head.
 fn push_straight(html: &mut Html, arrow: &Arrow, from: Place, to: Place) -> Result<(), NoMemory> {
-    open_arrow(html, arrow, from)?;
-    html.numbered("H", to.left)?;
-    open_head(html, arrow, to.left, line_middle(arrow.line))?;
-    html.markup("l-8 -4v8z\"/>\n")
+    let down = line_middle(arrow.line);
+    let changed = arrow.changed;
+    html.tag(Tag::Straight {
+        at: At {
+            across: right_of(from),
+            down,
+        },
+        right: to.left,
+        changed,
+    })?;
+    html.markup("\n")?;
+    html.tag(Tag::HeadRight {
+        at: At {
+            across: to.left,
+            down,
+        },
+        changed,
+    })?;
+    html.markup("\n")
 }
 
-/// Where an arrow goes around the boxes: down at `down`, along at `lane`, and up at `up` to the bottom of a box.
-#[derive(Clone, Copy)]
-struct Detour {
-    down: u64,
-    lane: u64,
-    up: u64,
-    bottom: u64,
-}
-
-/// Adds an arrow that goes around the boxes.
-fn push_around(html: &mut Html, arrow: &Arrow, from: Place, by: Detour) -> Result<(), NoMemory> {
-    open_arrow(html, arrow, from)?;
-    html.numbered("H", by.down)?;
-    html.numbered("V", by.lane)?;
-    html.numbered("H", by.up)?;
-    html.numbered("V", by.bottom)?;
-    open_head(html, arrow, by.up, by.bottom)?;
-    html.markup("l-4 8h8z\"/>\n")
+/// Adds an arrow that goes around the boxes: its line and its head.
+fn push_around(html: &mut Html, by: Detour, changed: bool) -> Result<(), NoMemory> {
+    html.tag(Tag::Around { by, changed })?;
+    html.markup("\n")?;
+    html.tag(Tag::HeadUp { at: by.to, changed })?;
+    html.markup("\n")
 }
 
 /// Adds an arrow between two places.
@@ -172,12 +159,18 @@ fn push_arrow(
         Way::Straight => push_straight(html, arrow, from, to),
         Way::Around { lane, down, up } => {
             let by = Detour {
-                down: down_at(from, down),
+                from: At {
+                    across: right_of(from),
+                    down: line_middle(arrow.line),
+                },
+                right: down_at(from, down),
                 lane: layout.lane_at(lane),
-                up: up_at(to, up),
-                bottom: layout.bottom(),
+                to: At {
+                    across: up_at(to, up),
+                    down: layout.bottom(),
+                },
             };
-            push_around(html, arrow, from, by)
+            push_around(html, by, arrow.changed)
         }
     }
 }
@@ -196,14 +189,11 @@ fn push_arrows(html: &mut Html, layout: &Layout) -> Result<(), NoMemory> {
 
 /// Adds the drawing of boxes.
 fn push_drawing(html: &mut Html, boxes: &[NodeBox], layout: &Layout) -> Result<(), NoMemory> {
-    html.numbered(
-        "<svg class=\"picture\" fill=\"currentColor\" width=\"",
-        layout.width,
-    )?;
-    html.numbered("\" height=\"", layout.height())?;
-    html.numbered("\" viewBox=\"0 0 ", layout.width)?;
-    html.numbered(" ", layout.height())?;
-    html.markup("\">\n")?;
+    html.tag(Tag::Svg {
+        width: layout.width,
+        height: layout.height(),
+    })?;
+    html.markup("\n")?;
     push_boxes(html, boxes, layout)?;
     push_arrows(html, layout)?;
     html.markup("</svg>\n")

@@ -57,7 +57,7 @@ pub(crate) fn push_names_within(
 
 /// Adds to which box a field leads.
 fn push_target(html: &mut Html, boxes: &[NodeBox], to: usize) -> Result<(), NoMemory> {
-    html.markup(" &rarr; ")?;
+    html.markup(" \u{2192} ")?;
     push_box_number(html, to)?;
     match boxes.get(to) {
         None => Ok(()),

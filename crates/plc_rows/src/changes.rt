@@ -51,7 +51,7 @@ fn push_became(html: &mut Html, before: Cell, after: Cell) -> Written {
     }
     html.markup(": ")?;
     push_cell(html, before)?;
-    html.markup(" &rarr; ")?;
+    html.markup(" \u{2192} ")?;
     push_cell(html, after)?;
     html.markup("</div>")
 }
@@ -59,7 +59,7 @@ fn push_became(html: &mut Html, before: Cell, after: Cell) -> Written {
 /// What became of a number.
 fn push_number_became(html: &mut Html, before: u32, after: u32) -> Written {
     push_numbered(html, ": ", before)?;
-    push_numbered(html, " &rarr; ", after)?;
+    push_numbered(html, " \u{2192} ", after)?;
     html.markup("</div>")
 }
 

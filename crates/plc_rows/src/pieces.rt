@@ -2,7 +2,7 @@
 use crate::traced::Written;
 use plc_base::{PointId, StepId};
 use plc_flow::{Flow, Step};
-use plc_html::Html;
+use plc_html::{Html, Tag};
 use plc_lang::{Prim, locals_of};
 use plc_mem::Cell;
 use plc_texts::line_of;
@@ -35,8 +35,8 @@ pub fn push_cell(html: &mut Html, cell: Cell) -> Written {
 pub fn push_taken_step(html: &mut Html, flow: &Flow, id: StepId) -> Written {
     let mut words = Vec::new(html.alloc());
     push_step(&mut words, flow, id)?;
-    push_numbered(html, "<a href=\"#L", line_of(flow, id.0))?;
-    html.markup("\">")?;
+    let number = u64::from(line_of(flow, id.0));
+    html.tag(Tag::LinkToLine { number })?;
     html.text(&words)?;
     html.markup("</a>")
 }

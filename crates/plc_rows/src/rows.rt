@@ -8,7 +8,7 @@ use crate::taken::{Taken, push_entry, push_taken, thread_of};
 use crate::traced::{MOST_COLUMNS, Traced, Written};
 use crate::watching::push_watchers;
 use plc_auto::{Event, Observer};
-use plc_html::Html;
+use plc_html::{Html, Tag};
 use plc_mem::Memory;
 use plc_replay::End;
 use plc_run::Config;
@@ -168,8 +168,9 @@ fn push_row_end(html: &mut Html, config: &Config) -> Written {
 
 /// A row, in the configuration after its line.
 pub fn push_row(html: &mut Html, traced: &Traced, row: &Row, config: &Config) -> Written {
-    push_numbered(html, "<tr id=\"S", row.line)?;
-    push_numbered(html, "\"><td>", row.line)?;
+    let number = u64::from(row.line);
+    html.tag(Tag::RowOfEntry { number })?;
+    html.numbered("<td>", number)?;
     html.markup("</td><td>")?;
     push_entry(html, row.entry)?;
     html.markup("</td>")?;

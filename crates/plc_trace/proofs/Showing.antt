@@ -10,8 +10,8 @@ use Rattle.plc_page.specs.declared.page.Page.{Page}
 use Rattle.plc_trace.specs.Pages.{ShowsReplay, ShowsSchedule}
 
 -- any right answer is due
-loaded_shows : (m : Meanings) (bytes second : List ℕ) (j : Judged) (page : Page) → IsLoaded bytes (Ok j) → ShowsSchedule j m second page → ShowsReplay m bytes second page
-loaded_shows m bytes second j page loaded h = record {
+loaded_shows : (title : List ℕ) (m : Meanings) (bytes second : List ℕ) (j : Judged) (page : Page) → IsLoaded bytes (Ok j) → ShowsSchedule title j m second page → ShowsReplay title m bytes second page
+loaded_shows title m bytes second j page loaded h = record {
   status = h.status;
   text = h.text;
   due = inr (record {
@@ -22,6 +22,6 @@ loaded_shows m bytes second j page loaded h = record {
   shows = h.shows;
 }
 
-pub if_shown : {E : Type 0} (r : Result Page E) (m : Meanings) (bytes second : List ℕ) (j : Judged) → IsLoaded bytes (Ok j) → IfOk r (ShowsSchedule j m second) → IfOk r (ShowsReplay m bytes second)
-if_shown r m bytes second j loaded h =
-    if_ok_from r _ _ (λ page h. loaded_shows m bytes second j page loaded h) h
+pub if_shown : {E : Type 0} (r : Result Page E) (title : List ℕ) (m : Meanings) (bytes second : List ℕ) (j : Judged) → IsLoaded bytes (Ok j) → IfOk r (ShowsSchedule title j m second) → IfOk r (ShowsReplay title m bytes second)
+if_shown r title m bytes second j loaded h =
+    if_ok_from r _ _ (λ page h. loaded_shows title m bytes second j page loaded h) h

@@ -4,7 +4,7 @@ ghost use Rattle.plc_run.specs.Position.{IsOfRun};
 
 use crate::racing::push_race;
 use crate::refused::push_refusal;
-use plc_html::Html;
+use plc_html::{Html, Tag};
 use plc_mem::RaceKind;
 use plc_replay::End;
 use plc_rows::{Traced, Written, push_forbidding, push_name, push_numbered, step_of};
@@ -24,8 +24,10 @@ pub(crate) struct Reached<'a, 't> {
 
 /// The line of which is spoken.
 fn push_line(html: &mut Html, line: u32) -> Written {
-    push_numbered(html, "<p>Line <a href=\"#S", line)?;
-    push_numbered(html, "\">", line)?;
+    let number = u64::from(line);
+    html.markup("<p>Line ")?;
+    html.tag(Tag::LinkToEntry { number })?;
+    html.number(number)?;
     html.markup("</a> of the schedule")
 }
 

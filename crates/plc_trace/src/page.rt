@@ -1,5 +1,5 @@
-// The page of a run: the answer of `replay`, and what is said of the run, which is taken once more. What follows the
-// answer is made apart, so that the page shows the answer whatever is said of it.
+// The page of a run: the badge, what is said of the run, which is taken once more, and the answer of `replay`. What
+// stands between badge and answer is made apart, so that the page shows both whatever is said of them.
 ghost use Rattle.std.specs.Prelude.{◌≤◌, IfOk, length};
 ghost use Rattle.plc_base.specs.FileSizes.{largest_file};
 ghost use Rattle.plc_flow.specs.WellFormed.{FlowFits};
@@ -7,11 +7,11 @@ ghost use Rattle.plc_cli.specs.Answer.{CanBeReplayed};
 ghost use Rattle.plc_trace.specs.Pages.{ShowsReplay, ShowsSchedule, ShowsEnd, SaysUnscheduled};
 
 use crate::running::trace;
-use plc_base::{Items, NoMemory};
+use plc_base::NoMemory;
 use plc_check::{Judged, LoadFault, load};
 use plc_cli::{REFUSED, Recorded, answer_schedule};
-use plc_html::{Html, whole_page};
-use plc_page::{Page, push_file, push_numbered_lines, refused_page};
+use plc_html::{Html, Subject};
+use plc_page::{Page, page_of, push_file, push_numbered_lines, refused_page};
 use plc_reclaim::Reclaimer;
 use plc_sched::{SchedFault, read_schedule};
 use plc_texts::schedule_fault_text;
@@ -33,16 +33,18 @@ fn ended_page(
     reclaimer: &mut Box<dyn Reclaimer>,
 ) -> Result<Page, NoMemory>
     requires { CanBeReplayed recorded.judged.now recorded.schedule.now }
-    ensures { IfOk result (ShowsEnd recorded.entry.judged.now (meanings reclaimer.old) recorded.entry.schedule.now) }
+    ensures { IfOk result (ShowsEnd pair.entry.title.now recorded.entry.judged.now (meanings reclaimer.old)
+        recorded.entry.schedule.now) }
 {
     let answer = answer_schedule(alloc, recorded, reclaimer)?;
     let (mut rest, here) = trace(alloc, recorded, reclaimer)?;
     push_file(&mut rest, pair.file, here)?;
-    let page = whole_page(alloc, pair.title, &answer.text, rest)?;
-    Ok(Page {
+    let subject = Subject {
+        title: pair.title,
         status: answer.status,
-        bytes: Items::from_vec(page),
-    })
+        answer: &answer.text,
+    };
+    page_of(alloc, subject, &rest)
 }
 
 /// The line at which the refusal of a schedule points; 0 where it names none.
@@ -55,17 +57,18 @@ fn line_of_refusal(fault: SchedFault) -> u32 {
 
 /// The page of a schedule that is refused.
 fn unscheduled_page(alloc: Global, pair: Pair, fault: SchedFault) -> Result<Page, NoMemory>
-    ensures { IfOk result (SaysUnscheduled fault) }
+    ensures { IfOk result (SaysUnscheduled pair.entry.title.now fault) }
 {
     let text = schedule_fault_text(alloc, fault)?;
     let mut rest = Html::new(alloc);
     rest.markup("<h2>The schedule</h2>\n")?;
     push_numbered_lines(&mut rest, pair.schedule, line_of_refusal(fault))?;
-    let page = whole_page(alloc, pair.title, &text, rest)?;
-    Ok(Page {
+    let subject = Subject {
+        title: pair.title,
         status: REFUSED,
-        bytes: Items::from_vec(page),
-    })
+        answer: &text,
+    };
+    page_of(alloc, subject, &rest)
 }
 
 /// The page of a schedule for a file that was loaded.
@@ -76,7 +79,8 @@ fn scheduled_page(
     reclaimer: &mut Box<dyn Reclaimer>,
 ) -> Result<Page, NoMemory>
     requires fits { FlowFits judged.now.flow }
-    ensures { IfOk result (ShowsSchedule judged.now (meanings reclaimer.old) pair.entry.schedule.now) }
+    ensures { IfOk result (ShowsSchedule pair.entry.title.now judged.now (meanings reclaimer.old)
+        pair.entry.schedule.now) }
 {
     let schedule = match read_schedule(alloc, pair.schedule) {
         Ok(schedule) => schedule,
@@ -90,9 +94,10 @@ fn scheduled_page(
     ended_page(alloc, pair, recorded, reclaimer)
 }
 
-/// The page of a recorded run, by the bytes of a file and of a schedule: the answer of `replay` under this reclaimer,
-/// what is said of the last line, a row for each line, at most the last 300, and what is there after it. A file or a
-/// schedule that is refused is shown with the refusal. `name` is the title. The one error is that memory runs out.
+/// The page of a recorded run, by the bytes of a file and of a schedule: the badge and the sentence of what `replay`
+/// answers under this reclaimer, what is said of the last line, a row for each line, at most the last 300, what is
+/// there after it, the file, and the answer. A file or a schedule that is refused is shown with the refusal. `name` is
+/// the title. The one error is that memory runs out.
 pub fn replay_page(
     alloc: Global,
     name: &[u8],
@@ -101,7 +106,7 @@ pub fn replay_page(
     reclaimer: &mut Box<dyn Reclaimer>,
 ) -> Result<Page, NoMemory>
     requires { length bytes.now ≤ largest_file }
-    ensures { IfOk result (ShowsReplay (meanings reclaimer.old) bytes.now second.now) }
+    ensures { IfOk result (ShowsReplay name.now (meanings reclaimer.old) bytes.now second.now) }
 {
     let pair = Pair {
         title: name,

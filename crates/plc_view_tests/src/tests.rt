@@ -11,6 +11,13 @@ struct Row {
     hides: &'static str,
 }
 
+// What is told in place of an answer.
+struct Cause {
+    words: &'static str,
+    status: u8,
+    told: &'static str,
+}
+
 const SMALL: &str = "struct Node { ptr next; data val; }
 shared Top;
 op f(v) { ptr n; n := new; n.val := v; Top := n; }
@@ -43,26 +50,28 @@ op put() {
 outline { inv Top == null or Top.st == linked; }
 ";
 
-const ROWS: [Row; 17] = [
+const ROWS: [Row; 14] = [
     Row {
         words: "file",
         file: SMALL,
         status: 0,
-        shows: "<pre class=\"answer\">safe points 5 steps 4 locations 2 obligations 0\n</pre>",
+        shows: "<h1>file</h1>\n<p><b class=\"badge safe\">SAFE</b> In no run of this program",
         hides: "<script",
     },
     Row {
         words: "file",
         file: SMALL,
         status: 0,
-        shows: "<td>op f(v) { ptr n; n := new; n.val := v; Top := n; }</td>",
+        shows: "</details>\n<details id=\"answer\"><summary>The answer in full</summary>\n<pre class=\"answer\">\
+                safe points 5 steps 4 locations 2 obligations 0\n</pre>\n</details>\n</body>",
         hides: "src=",
     },
     Row {
         words: "file",
         file: MARKUP,
         status: 1,
-        shows: "// &lt;/td&gt;&lt;script&gt;alert(&#39;1&#39;)&lt;/script&gt;&lt;img src=&quot;x&quot; onerror=alert(2)&gt;",
+        shows: "// &lt;/td&gt;&lt;script&gt;alert(&#39;1&#39;)&lt;/script&gt;&lt;img src=&quot;x&quot; \
+                onerror=alert(2)&gt;",
         hides: "<script",
     },
     Row {
@@ -83,8 +92,8 @@ const ROWS: [Row; 17] = [
         words: "file",
         file: UNPROVED,
         status: 1,
-        shows: "<pre class=\"answer\">unproved own step 1 line 7 clause 0\n",
-        hides: "At least",
+        shows: "<b class=\"badge open\">UNPROVED</b>",
+        hides: "SAFE",
     },
     Row {
         words: "--plain file",
@@ -108,38 +117,18 @@ const ROWS: [Row; 17] = [
         hides: "<",
     },
     Row {
-        words: "--plain",
-        file: SMALL,
-        status: 3,
-        shows: "words refused\n",
-        hides: "<",
-    },
-    Row {
-        words: "file schedule other",
-        file: SMALL,
-        status: 3,
-        shows: "words refused\n",
-        hides: "<",
-    },
-    Row {
-        words: "--plain schedule leak",
-        file: SMALL,
-        status: 3,
-        shows: "words refused\n",
-        hides: "<",
-    },
-    Row {
         words: "file schedule leak",
         file: SMALL,
         status: 1,
-        shows: "<pre class=\"answer\">impossible line 6\n</pre>",
-        hides: "<script",
+        shows: "<h1>file schedule leak</h1>\n<p><b class=\"badge\">IMPOSSIBLE</b> A line of the \
+                schedule can't be taken.</p>\n",
+        hides: "SAFE",
     },
     Row {
         words: "file schedule list",
         file: SMALL,
         status: 1,
-        shows: "<div><code>Top</code>: null &rarr; 3</div>",
+        shows: "<div><code>Top</code>: null \u{2192} 3</div>",
         hides: "dangl",
     },
     Row {
@@ -162,6 +151,34 @@ const ROWS: [Row; 17] = [
         status: 2,
         shows: "<tr class=\"here\" id=\"L1\">",
         hides: "<script",
+    },
+];
+
+const CAUSES: [Cause; 5] = [
+    Cause {
+        words: "--plain",
+        status: 3,
+        told: "words refused\n",
+    },
+    Cause {
+        words: "file schedule other",
+        status: 3,
+        told: "words refused\n",
+    },
+    Cause {
+        words: "--plain schedule leak",
+        status: 3,
+        told: "words refused\n",
+    },
+    Cause {
+        words: "none",
+        status: 4,
+        told: "read failed\n",
+    },
+    Cause {
+        words: "file none leak",
+        status: 4,
+        told: "read failed\n",
     },
 ];
 
@@ -197,11 +214,38 @@ fn files_of(alloc: Global, file: &str) -> Result<MemFiles, AllocError> {
     Ok(MemFiles::new(alloc, files, Vec::new(alloc)))
 }
 
+// What words come to: a status, what is written, and what is told in its place.
+#[derive(Drop)]
+struct Shown {
+    status: u8,
+    written: Vec<u8>,
+    told: Vec<u8>,
+}
+
+// What words come to over a file and the schedule.
+fn shown_of(alloc: Global, line: &str, file: &str) -> Result<Shown, AllocError> {
+    let words = words_of(alloc, line)?;
+    let mut files = files_of(alloc, file)?;
+    let mut out = VecSink::new(alloc);
+    let mut causes = VecSink::new(alloc);
+    let status = show(alloc, &words, &mut files, &mut out, &mut causes);
+    let written = Vec::from_slice(alloc, out.written())?;
+    let told = Vec::from_slice(alloc, causes.written())?;
+    Ok(Shown {
+        status,
+        written,
+        told,
+    })
+}
+
 // Whether a page is as the row says.
-fn is_so(row: &Row, status: u8, written: &[u8]) -> bool {
-    match str::from_utf8(written) {
+fn is_so(row: &Row, shown: &Shown) -> bool {
+    match str::from_utf8(&shown.written) {
         Ok(text) => {
-            status == row.status && text.contains(row.shows) && !text.contains(row.hides)
+            shown.status == row.status
+                && shown.told.is_empty()
+                && text.contains(row.shows)
+                && !text.contains(row.hides)
         }
         Err(_) => false,
     }
@@ -209,14 +253,24 @@ fn is_so(row: &Row, status: u8, written: &[u8]) -> bool {
 
 // Whether what is written for the row is as it says.
 fn row_is(alloc: Global, row: &Row) -> Result<bool, AllocError> {
-    let words = words_of(alloc, row.words)?;
-    let mut files = files_of(alloc, row.file)?;
-    let mut out = VecSink::new(alloc);
-    let status = show(alloc, &words, &mut files, &mut out);
-    let so = is_so(row, status, out.written());
-    drop(out);
-    drop(files);
-    drop(words);
+    let shown = shown_of(alloc, row.words, row.file)?;
+    let so = is_so(row, &shown);
+    drop(shown);
+    Ok(so)
+}
+
+// Whether what is told is as the row says, and nothing is written.
+fn is_told(row: &Cause, shown: &Shown) -> bool {
+    shown.status == row.status
+        && shown.written.is_empty()
+        && shown.told.as_slice() == row.told.as_bytes()
+}
+
+// Whether what is told for the row is as it says.
+fn cause_is(alloc: Global, row: &Cause) -> Result<bool, AllocError> {
+    let shown = shown_of(alloc, row.words, SMALL)?;
+    let so = is_told(row, &shown);
+    drop(shown);
     Ok(so)
 }
 
@@ -224,6 +278,15 @@ fn row_is(alloc: Global, row: &Row) -> Result<bool, AllocError> {
 fn pages_are_as_the_rows_say(rt: HostRuntime) -> Result<(), AllocError> {
     for (at, row) in ROWS.iter().enumerate() {
         let so = row_is(rt.alloc(), row)?;
+        assert!(rt; so, "row {at}");
+    }
+    Ok(())
+}
+
+#[test]
+fn causes_are_told_apart(rt: HostRuntime) -> Result<(), AllocError> {
+    for (at, row) in CAUSES.iter().enumerate() {
+        let so = cause_is(rt.alloc(), row)?;
         assert!(rt; so, "row {at}");
     }
     Ok(())

@@ -1,0 +1,5 @@
+-- what contracts of public calls say
+pub mod Requests
+pub mod Showing
+-- words of private functions alone
+pub mod Views
