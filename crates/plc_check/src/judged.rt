@@ -5,7 +5,7 @@ ghost use Rattle.plc_check.specs.declared.judged.LoadFault.TheVariants.{Memory};
 use plc_auto::{Observer, Scheme};
 use plc_base::{Items, What1};
 use plc_flow::Flow;
-use plc_lex::LexFault;
+use plc_lex::{LexFault, Token};
 use plc_logic::Outline;
 use plc_scope::ParseFault;
 
@@ -20,6 +20,15 @@ pub struct Judged {
     pub schemes: Items<Scheme>,
     /// The file and its control flow.
     pub flow: Flow,
+}
+
+/// A file that was loaded, with the tokens that its bytes spell.
+#[derive(Drop)]
+pub struct Loaded {
+    /// What is judged of the file.
+    pub judged: Judged,
+    /// Its tokens, for who shows where something stands in it.
+    pub tokens: Items<Token>,
 }
 
 /// Why bytes are refused.

@@ -16,9 +16,11 @@ mod verdict;
 
 pub use certified::{Certified, certify};
 pub use counterexample::Counterexample;
-pub use judged::{Judged, LoadFault};
+pub use judged::{Judged, LoadFault, Loaded};
 pub use laws::certificates_are_verified;
-pub use loading::{end_line, files_are_unique, files_fit, files_use_their_marks, load};
+pub use loading::{
+    end_line, files_are_unique, files_fit, files_use_their_marks, load, load_with_tokens,
+};
 pub use open::{OpenObligations, open_obligations};
 pub use outlined::{OutlineFault, with_outline};
 pub use verdict::{Typed, Verdict, check, strongest_typing};

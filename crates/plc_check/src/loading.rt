@@ -1,5 +1,5 @@
 // Bytes, tokens, unit, flow, limits of the outline: the first refusal on this way is the answer.
-ghost use Rattle.std.specs.Prelude.{◌≡◌, ◌<◌, ◌≤◌, ◌+◌, ◌^◌, length, IfOk};
+ghost use Rattle.std.specs.Prelude.{◌≡◌, ◌<◌, ◌≤◌, ◌+◌, ◌^◌, length, Ok, Err, IfOk, IfErr};
 ghost use Rattle.plc_base.specs.FileSizes.{largest_file};
 ghost use Rattle.plc_check.specs.Fit.{FilesFit, JudgedFits};
 ghost use Rattle.plc_check.specs.Answered.{IsLoaded, FilesAreUnique, line_of, place_of};
@@ -11,7 +11,7 @@ ghost use Rattle.plc_auto.specs.Schemes.{schemes_of};
 ghost use Rattle.plc_check.specs.Refusals.{lex_refusal, parse_refusal, flow_refusal, unplaced_refusal, IsLowered};
 ghost use Rattle.plc_check.specs.Refusals.{IsJudgedOf};
 
-use crate::judged::{Judged, LoadFault};
+use crate::judged::{Judged, LoadFault, Loaded};
 use crate::limits::check_limits;
 use plc_auto::{Scheme, schemes_of};
 use plc_base::{Items, What1};
@@ -167,6 +167,39 @@ fn load_tokens(alloc: Global, bytes: &[u8], found: &[Token]) -> Result<Judged, L
     }
 }
 
+/// The same, with the tokens.
+fn load_found(alloc: Global, bytes: &[u8], found: Vec<Token>) -> Result<Loaded, LoadFault>
+    requires short { length bytes.now ≤ largest_file }
+    requires few { length found.items < 2 ^ 32 }
+    requires spelled { AreTokensOf bytes.now found.items }
+    ensures judged { IfOk result (λ l. IsLoaded bytes.now (Ok l.judged)) }
+    ensures tokens { IfOk result (λ l. AreTokensOf bytes.now l.tokens) }
+    ensures fits { IfOk result (λ l. JudgedFits l.judged) }
+    ensures refused { IfErr result (λ fault. IsLoaded bytes.now (Err fault)) }
+{
+    match load_tokens(alloc, bytes, &found) {
+        Ok(judged) => Ok(Loaded {
+            judged,
+            tokens: Items::from_vec(found),
+        }),
+        Err(fault) => Err(fault),
+    }
+}
+
+/// [`load`] with the tokens of the file, so that nobody who needs them reads the bytes once more.
+pub fn load_with_tokens(alloc: Global, bytes: &[u8]) -> Result<Loaded, LoadFault>
+    requires { length bytes.now ≤ largest_file }
+    ensures judged { IfOk result (λ l. IsLoaded bytes.now (Ok l.judged)) }
+    ensures tokens { IfOk result (λ l. AreTokensOf bytes.now l.tokens) }
+    ensures fits { IfOk result (λ l. JudgedFits l.judged) }
+    ensures refused { IfErr result (λ fault. IsLoaded bytes.now (Err fault)) }
+{
+    match tokens(alloc, bytes) {
+        Ok(found) => load_found(alloc, bytes, found),
+        Err(fault) => Err(lex_refusal(fault)),
+    }
+}
+
 /// Reads and lowers a file of at most 1 MiB. The first refusal on the way is the answer: `Lex` where
 /// the bytes spell no tokens, `Parse` or `Limit` where the tokens spell no unit, `Limit` where the flow
 /// would have more than 4,096 points, then where the outline has more than 1,000,000 obligations, then where
@@ -176,9 +209,9 @@ pub fn load(alloc: Global, bytes: &[u8]) -> Result<Judged, LoadFault>
     ensures loaded { IsLoaded bytes.now result }
     ensures fits { IfOk result JudgedFits }
 {
-    match tokens(alloc, bytes) {
-        Ok(found) => load_tokens(alloc, bytes, &found),
-        Err(fault) => Err(lex_refusal(fault)),
+    match load_with_tokens(alloc, bytes) {
+        Ok(loaded) => Ok(loaded.judged),
+        Err(fault) => Err(fault),
     }
 }
 

@@ -14,11 +14,10 @@ use crate::shown::{Shown, Written};
 use crate::unproved::{MOST_SHOWN, push_unproved};
 use crate::untyped::push_failure;
 use plc_base::{Items, NoMemory};
-use plc_check::{Judged, LoadFault, Verdict, check, load, open_obligations};
+use plc_check::{Judged, LoadFault, Loaded, Verdict, check, load_with_tokens, open_obligations};
 use plc_cli::{refusal, verdict_status, verdict_text};
 use plc_html::{Html, Subject, whole_page};
 use plc_infer::{Typing, pretyping};
-use plc_lex::tokens;
 use plc_texts::line_of;
 use plc_words::Clauses;
 use std::alloc::Global;
@@ -77,31 +76,20 @@ fn push_all(html: &mut Html, shown: &Shown, verdict: &Verdict) -> Written
     push_points(html, shown)
 }
 
-/// Where the clauses of the outline stand in bytes that spell a file.
-pub(crate) fn clauses_in(alloc: Global, bytes: &[u8]) -> Result<Clauses, NoMemory>
-    requires { length bytes.now ≤ largest_file }
-{
-    match tokens(alloc, bytes) {
-        Ok(tokens) => Clauses::read(alloc, &tokens),
-        Err(_) => Err(NoMemory),
-    }
-}
-
 /// A file that was loaded, by its bytes, with the verdict on it.
 #[derive(Clone, Copy)]
 struct Answered<'a> {
     bytes: &'a [u8],
-    judged: &'a Judged,
+    loaded: &'a Loaded,
     verdict: &'a Verdict,
 }
 
 /// What stands before the answer.
 fn rest_of(alloc: Global, answered: Answered) -> Result<Html, NoMemory>
-    requires short { length answered.bytes.now ≤ largest_file }
-    requires fits { Fits answered.judged.now.flow answered.judged.now.unit_outline }
+    requires { Fits answered.loaded.now.judged.flow answered.loaded.now.judged.unit_outline }
 {
-    let judged = answered.judged;
-    let clauses = clauses_in(alloc, answered.bytes)?;
+    let judged = &answered.loaded.judged;
+    let clauses = Clauses::read(alloc, answered.loaded.tokens.as_slice())?;
     let typing = pretyping(alloc, &judged.flow, &judged.observer)?;
     let shown = Shown {
         bytes: answered.bytes,
@@ -116,11 +104,10 @@ fn rest_of(alloc: Global, answered: Answered) -> Result<Html, NoMemory>
 
 /// The page that says a verdict.
 fn verdict_page(alloc: Global, name: &[u8], answered: Answered) -> Result<Page, NoMemory>
-    requires short { length answered.bytes.now ≤ largest_file }
-    requires fits { Fits answered.judged.now.flow answered.judged.now.unit_outline }
-    ensures { IfOk result (SaysVerdict name.now answered.entry.judged.now answered.entry.verdict.now) }
+    requires { Fits answered.loaded.now.judged.flow answered.loaded.now.judged.unit_outline }
+    ensures { IfOk result (SaysVerdict name.now answered.entry.loaded.now.judged answered.entry.verdict.now) }
 {
-    let text = verdict_text(alloc, answered.judged, answered.verdict)?;
+    let text = verdict_text(alloc, &answered.loaded.judged, answered.verdict)?;
     let rest = rest_of(alloc, answered)?;
     let subject = Subject {
         title: name,
@@ -131,15 +118,14 @@ fn verdict_page(alloc: Global, name: &[u8], answered: Answered) -> Result<Page, 
 }
 
 /// The page of a file that was loaded.
-fn judged_page(alloc: Global, name: &[u8], bytes: &[u8], judged: &Judged) -> Result<Page, NoMemory>
-    requires short { length bytes.now ≤ largest_file }
-    requires fits { Fits judged.now.flow judged.now.unit_outline }
-    ensures { IfOk result (ShowsVerdict name.now judged.now) }
+fn judged_page(alloc: Global, name: &[u8], bytes: &[u8], loaded: &Loaded) -> Result<Page, NoMemory>
+    requires { Fits loaded.now.judged.flow loaded.now.judged.unit_outline }
+    ensures { IfOk result (ShowsVerdict name.now loaded.now.judged) }
 {
-    let verdict = check(alloc, judged)?;
+    let verdict = check(alloc, &loaded.judged)?;
     let answered = Answered {
         bytes,
-        judged,
+        loaded,
         verdict: &verdict,
     };
     let page = verdict_page(alloc, name, answered);
@@ -148,13 +134,12 @@ fn judged_page(alloc: Global, name: &[u8], bytes: &[u8], judged: &Judged) -> Res
 }
 
 /// The page of a file that was loaded, which ends here.
-fn loaded_page(alloc: Global, name: &[u8], bytes: &[u8], judged: Judged) -> Result<Page, NoMemory>
-    requires short { length bytes.now ≤ largest_file }
-    requires fits { Fits judged.flow judged.unit_outline }
-    ensures { IfOk result (ShowsVerdict name.now judged) }
+fn loaded_page(alloc: Global, name: &[u8], bytes: &[u8], loaded: Loaded) -> Result<Page, NoMemory>
+    requires { Fits loaded.judged.flow loaded.judged.unit_outline }
+    ensures { IfOk result (ShowsVerdict name.now loaded.judged) }
 {
-    let page = judged_page(alloc, name, bytes, &judged);
-    drop(judged);
+    let page = judged_page(alloc, name, bytes, &loaded);
+    drop(loaded);
     page
 }
 
@@ -185,8 +170,8 @@ pub fn file_page(alloc: Global, name: &[u8], bytes: &[u8]) -> Result<Page, NoMem
     requires { length bytes.now ≤ largest_file }
     ensures { IfOk result (ShowsCheck name.now bytes.now) }
 {
-    match load(alloc, bytes) {
-        Ok(judged) => loaded_page(alloc, name, bytes, judged),
+    match load_with_tokens(alloc, bytes) {
+        Ok(loaded) => loaded_page(alloc, name, bytes, loaded),
         Err(LoadFault::Memory) => Err(NoMemory),
         Err(fault) => refused_page(alloc, name, bytes, &fault),
     }

@@ -6,11 +6,12 @@ ghost use Rattle.plc_check.specs.declared.judged.LoadFault.TheVariants.{Memory};
 ghost use Rattle.plc_cli.specs.Statuses.{refused};
 ghost use Rattle.plc_page.specs.Pages.{HasCheckStatus, HasVerdictStatus};
 
-use crate::page::clauses_in;
 use crate::refused::line_of_refusal;
 use crate::unproved::MOST_SHOWN;
 use plc_base::{NoMemory, OpId, StepId};
-use plc_check::{Counterexample, Judged, LoadFault, Verdict, check, load, open_obligations};
+use plc_check::{
+    Counterexample, Judged, LoadFault, Loaded, Verdict, check, load_with_tokens, open_obligations,
+};
 use plc_cli::{refusal, verdict_status};
 use plc_flow::Flow;
 use plc_oblig::Obligation;
@@ -108,15 +109,14 @@ fn push_all_open(
     out: &mut Vec<u8>,
     alloc: Global,
     file: Named,
-    judged: &Judged,
+    loaded: &Loaded,
 ) -> Result<(), NoMemory>
-    requires short { length file.bytes.now ≤ largest_file }
-    requires fits { Fits judged.now.flow judged.now.unit_outline }
+    requires { Fits loaded.now.judged.flow loaded.now.judged.unit_outline }
 {
-    let clauses = clauses_in(alloc, file.bytes)?;
-    let open = open_obligations(alloc, judged, MOST_SHOWN)?;
+    let clauses = Clauses::read(alloc, loaded.tokens.as_slice())?;
+    let open = open_obligations(alloc, &loaded.judged, MOST_SHOWN)?;
     for found in open.found.as_slice() {
-        push_open(out, file, judged, &clauses, found)?;
+        push_open(out, file, &loaded.judged, &clauses, found)?;
     }
     push_end(out, file.name, open.all)?;
     Ok(())
@@ -180,12 +180,12 @@ fn push_verdict(
     out: &mut Vec<u8>,
     alloc: Global,
     file: Named,
-    judged: &Judged,
+    loaded: &Loaded,
     verdict: &Verdict,
 ) -> Result<(), NoMemory>
-    requires short { length file.bytes.now ≤ largest_file }
-    requires fits { Fits judged.now.flow judged.now.unit_outline }
+    requires { Fits loaded.now.judged.flow loaded.now.judged.unit_outline }
 {
+    let judged = &loaded.judged;
     match verdict {
         Verdict::Safe { .. } => Ok(()),
         Verdict::Untyped { step, prim, fault } => {
@@ -193,19 +193,18 @@ fn push_verdict(
             push_suggestions(out, alloc, file.name, judged)?;
             Ok(())
         }
-        Verdict::Unproved { .. } => push_all_open(out, alloc, file, judged),
+        Verdict::Unproved { .. } => push_all_open(out, alloc, file, loaded),
     }
 }
 
 /// The lines of a file that was loaded.
-fn judged_lines(alloc: Global, file: Named, judged: &Judged) -> Result<Lines, NoMemory>
-    requires short { length file.bytes.now ≤ largest_file }
-    requires fits { Fits judged.now.flow judged.now.unit_outline }
-    ensures { IfOk result (λ lines. HasVerdictStatus judged.now lines.status) }
+fn judged_lines(alloc: Global, file: Named, loaded: &Loaded) -> Result<Lines, NoMemory>
+    requires { Fits loaded.now.judged.flow loaded.now.judged.unit_outline }
+    ensures { IfOk result (λ lines. HasVerdictStatus loaded.now.judged lines.status) }
 {
-    let verdict = check(alloc, judged)?;
+    let verdict = check(alloc, &loaded.judged)?;
     let mut text = Vec::new(alloc);
-    push_verdict(&mut text, alloc, file, judged, &verdict)?;
+    push_verdict(&mut text, alloc, file, loaded, &verdict)?;
     Ok(Lines {
         status: verdict_status(&verdict),
         text,
@@ -213,13 +212,12 @@ fn judged_lines(alloc: Global, file: Named, judged: &Judged) -> Result<Lines, No
 }
 
 /// The lines of a file that was loaded, which ends here.
-fn loaded_lines(alloc: Global, file: Named, judged: Judged) -> Result<Lines, NoMemory>
-    requires short { length file.bytes.now ≤ largest_file }
-    requires fits { Fits judged.flow judged.unit_outline }
-    ensures { IfOk result (λ lines. HasVerdictStatus judged lines.status) }
+fn loaded_lines(alloc: Global, file: Named, loaded: Loaded) -> Result<Lines, NoMemory>
+    requires { Fits loaded.judged.flow loaded.judged.unit_outline }
+    ensures { IfOk result (λ lines. HasVerdictStatus loaded.judged lines.status) }
 {
-    let lines = judged_lines(alloc, file, &judged);
-    drop(judged);
+    let lines = judged_lines(alloc, file, &loaded);
+    drop(loaded);
     lines
 }
 
@@ -246,8 +244,8 @@ pub fn plain_lines(alloc: Global, name: &[u8], bytes: &[u8]) -> Result<Lines, No
     ensures { IfOk result (λ lines. HasCheckStatus bytes.now lines.status) }
 {
     let file = Named { name, bytes };
-    match load(alloc, bytes) {
-        Ok(judged) => loaded_lines(alloc, file, judged),
+    match load_with_tokens(alloc, bytes) {
+        Ok(loaded) => loaded_lines(alloc, file, loaded),
         Err(LoadFault::Memory) => Err(NoMemory),
         Err(fault) => refused_lines(alloc, file, &fault),
     }
