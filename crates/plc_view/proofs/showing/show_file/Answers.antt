@@ -11,5 +11,5 @@ returns-in-Read-clause-due g c =
     (λ bytes status text. ShowsCheck c.args.file.now bytes (page status text)) c.in-Read.bytes.items c.deref.result.now
     (subst (IsContentOf _ _ _ _) c.in-Read.is c.in_ok-bytes.ensures.read) c.deref.ensures.value c.file_answer.ensures
 
-pub returns-clause-due : goal.returns-clause-due
-returns-clause-due g c = inl (subst (IsContentOf _ _ _ _) c.in-Unread.is c.in_ok-bytes.ensures.read)
+pub returns-in-Unread-clause-due : goal.returns-in-Unread-clause-due
+returns-in-Unread-clause-due g c = inl (subst (IsContentOf _ _ _ _) c.in-Unread.is c.in_ok-bytes.ensures.read)
