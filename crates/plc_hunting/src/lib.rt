@@ -9,6 +9,7 @@ mod hunting;
 mod laws;
 mod quarry;
 mod racing;
+mod words;
 mod writing;
 
 pub use asking::hunt;
