@@ -31,7 +31,8 @@ fn lex_refusal(fault: LexFault) -> LoadFault
     }
 }
 
-/// The line on which bytes end: one more than they have line feeds.
+/// The line on which bytes end, of which there are at most as many as a file may have: one more than they have line
+/// feeds.
 pub fn end_line(bytes: &[u8]) -> u32
     requires { length bytes.now ≤ largest_file }
     ensures { result ≡ 1 + line_feeds bytes.now }

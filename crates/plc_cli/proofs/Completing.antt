@@ -201,20 +201,20 @@ module _ (reclaimers : List Meanings) (request : Option Request) (old new : Know
     fits room (inl long) = subst (λ (t : List ℕ). length t ≤ sink.room) (sym long.2.text_is) room.long
     fits room (inr answer) = room.due w.status w.text answer.0
 
-    fills : result ≡ unwritten → sink_now.room ≡ 0 → Due → FillsRoom reclaimers request old sink sink_now
-    fills is full (inl long) = record {
+    fills : result ≡ unwritten → Due → FillsRoom reclaimers request old sink sink_now
+    fills is (inl long) = record {
       text = w.text;
       due = inr long.2.text_is;
       longer = (w.ends.failed is).room;
       part = (w.ends.failed is).part;
-      full = full;
+      full = (w.ends.failed is).full;
     }
-    fills is full (inr answer) = record {
+    fills is (inr answer) = record {
       text = w.text;
       due = inl (w.status, answer.0);
       longer = (w.ends.failed is).room;
       part = (w.ends.failed is).part;
-      full = full;
+      full = (w.ends.failed is).full;
     }
 
     whole_long : result ≡ unread → result ≡ w.status → Due → IsToldTooLong request old sink sink_now result
@@ -223,7 +223,7 @@ module _ (reclaimers : List Meanings) (request : Option Request) (old new : Know
       among = long.1;
       long = long.2.long;
       status_is = is;
-      written = subst (λ (t : List ℕ). Appends sink.written sink_now.written t) long.2.text_is (w.ends.whole same);
+      written = subst (λ (t : List ℕ). Appends sink sink_now t) long.2.text_is (w.ends.whole same);
     }
     whole_long is same (inr answer) = absurd (omega (arith, is, same, answer.1))
 
@@ -249,8 +249,8 @@ module _ (reclaimers : List Meanings) (request : Option Request) (old new : Know
   neither six (inr is) = omega (arith, six, is)
 
   pub completeness_of : Outcome reclaimers request old new sink sink_now result →
-      (result ≡ unwritten → sink_now.room ≡ 0) → Completeness reclaimers request old new sink sink_now result
-  completeness_of (inl none) full = record {
+      Completeness reclaimers request old new sink sink_now result
+  completeness_of (inl none) = record {
     answered = λ told kept short held. inr none.0;
     no_room = λ told kept is. absurd (neither none.0 (inr is));
     with_room = λ told kept room. record {
@@ -258,9 +258,9 @@ module _ (reclaimers : List Meanings) (request : Option Request) (old new : Know
       answered = λ not_four not_six. absurd (not_six none.0);
     };
   }
-  completeness_of (inr w) full = record {
+  completeness_of (inr w) = record {
     answered = λ told kept short held. answered w told kept short held w.ends.only;
-    no_room = λ told kept is. fills w told kept is (full is) (due w told kept);
+    no_room = λ told kept is. fills w told kept is (due w told kept);
     with_room = λ told kept room. record {
       only_too_long = λ is. too_long w told kept room is w.ends.only;
       answered = λ not_four not_six.

@@ -35,7 +35,7 @@ end_allowed u bytes spelled m serves s end comes a line e =
     a line (subst (ComesTo (judged_of u).flow u.observer m (judged_of u).schemes s) e comes)
 
 module _ (status : ℕ) (text : List ℕ) (one : status ≡ 1) where
-  module _ (m : Meanings) (bytes second : List ℕ) (served : IsServedBy m bytes) (sink sink_now : KnownSink) (whole : Appends sink.written sink_now.written text) where
+  module _ (m : Meanings) (bytes second : List ℕ) (served : IsServedBy m bytes) (sink sink_now : KnownSink) (whole : Appends sink sink_now text) where
     schedule_fails : IsScheduleAnswered (judged_of served.unit) m second status text → FailsOtherwise served.unit m second sink sink_now
     schedule_fails (inl refused) = absurd (let is = refused.status_is in omega arith)
     schedule_fails (inr replayed) = record {
@@ -45,7 +45,7 @@ module _ (status : ℕ) (text : List ℕ) (one : status ≡ 1) where
       comes = replayed.answer.right;
       failed = sym replayed.answer.status_is ∙ one;
       allowed = end_allowed served.unit bytes served.spelled m served.serves replayed.schedule replayed.answer.what replayed.answer.right;
-      text = subst (Appends sink.written sink_now.written) replayed.answer.text_is whole;
+      text = subst (Appends sink sink_now) replayed.answer.text_is whole;
     }
 
     replay_fails : IsReplayOf m bytes second status text → FailsOtherwise served.unit m second sink sink_now
@@ -75,7 +75,7 @@ module _ (reclaimers : List Meanings) (old new : KnownFiles) (sink sink_now : Kn
   abbrev AreBytes : List ℕ → List ℕ → Type 0
   AreBytes bytes second = (given more : List ℕ) → IsGivenPair old new file schedule largest_schedule given more → (given ≡ bytes) × (more ≡ second)
 
-  due_fails : (bytes second : List ℕ) → AreBytes bytes second → (served : IsServedBy m bytes) → (status : ℕ) (text : List ℕ) → status ≡ 1 → Appends sink.written sink_now.written text →
+  due_fails : (bytes second : List ℕ) → AreBytes bytes second → (served : IsServedBy m bytes) → (status : ℕ) (text : List ℕ) → status ≡ 1 → Appends sink sink_now text →
       IsDueForReplay reclaimers old new file schedule number status text → FailsOtherwise served.unit m second sink sink_now
   due_fails bytes second are served status text one whole due = go due.due
     where

@@ -133,7 +133,7 @@ module _ (status : ℕ) (text : List ℕ) where
       omega (arith, unread_pair_status status text _ _ _ _ _ none)
   pair_low old new first second most Answers low (inr due) = omega (arith, low due.0 due.1 due.3)
 
-  pub due_low : (reclaimers : List Meanings) (request : Option Request) (old new : KnownFiles) → IsDueFor reclaimers request old new status text → status ≤ 4
+  due_low : (reclaimers : List Meanings) (request : Option Request) (old new : KnownFiles) → IsDueFor reclaimers request old new status text → status ≤ 4
   due_low reclaimers None old new refused = omega (arith, refused.status_is)
   due_low reclaimers (Some (Check name)) old new due = file_low _ _ _ _ check_low due
   due_low reclaimers (Some (Certify name)) old new due = file_low _ _ _ _ certify_low due
@@ -152,7 +152,7 @@ module _ (status : ℕ) (text : List ℕ) where
     written_so : (result : ℕ) → Ends status text sink sink_now result → Outcome reclaimers request old new sink sink_now result
     written_so result ends = inr (record { status = status; text = text; due = due; ends = ends })
 
-    pub all_written : Appends sink.written sink_now.written text →
+    pub all_written : Appends sink sink_now text →
         Outcome reclaimers request old new sink sink_now status
     all_written a = written_so status (record {
       only = inl refl;
@@ -169,7 +169,7 @@ module _ (status : ℕ) (text : List ℕ) where
       memory = λ e. absurd (omega (arith, e));
     })
 
-    pub memory_ran_out : AppendsPart sink.written sink_now.written text →
+    pub memory_ran_out : AppendsPart sink sink_now text →
         Outcome reclaimers request old new sink sink_now no_memory
     memory_ran_out a = written_so no_memory (record {
       only = inr (inr refl);
@@ -177,7 +177,3 @@ module _ (status : ℕ) (text : List ℕ) where
       failed = λ e. absurd (omega (arith, e));
       memory = λ e. a;
     })
-
--- a sink to which nothing was written
-pub nothing_written : (written : List ℕ) → Appends written written []
-nothing_written written = sym (append-nil written)

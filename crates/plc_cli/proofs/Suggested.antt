@@ -26,7 +26,7 @@ use Rattle.plc_cli.proofs.TwoReads.{told_is, unread_status}
 -- ---- what the answer to bytes says
 
 module _ (bytes : List ℕ) (status : ℕ) (text : List ℕ) where
-  module _ (sink sink_now : KnownSink) (whole : Appends sink.written sink_now.written text)
+  module _ (sink sink_now : KnownSink) (whole : Appends sink sink_now text)
       (zero : status ≡ holds) where
     found : (u : FileUnit) → IsFileOf bytes u → (what : Suggestion)
         → IsSuggestion u.observer (skeleton_of (flow_of u.file)) what → status ≡ suggestion_status what
@@ -36,7 +36,7 @@ module _ (bytes : List ℕ) (status : ℕ) (text : List ℕ) where
       spelled = spelled;
       spots = spots;
       least = least_set u.observer (skeleton_of (flow_of u.file)) spots right.0 right.1;
-      written = subst (Appends sink.written sink_now.written) text_is whole;
+      written = subst (Appends sink sink_now) text_is whole;
     }
     found u spelled (Insufficient step prim fault) right status_is text_is = absurd (omega (arith, status_is, zero))
 
@@ -87,14 +87,14 @@ module _ (reclaimers : List Meanings) (request : Option Request) (old new : Know
   pub record IsAnswered (bytes : List ℕ) : Type 0 where
     pub text : List ℕ
     pub answer : IsSuggestionOf bytes result text
-    pub whole : Appends sink.written sink_now.written text
+    pub whole : Appends sink sink_now text
 
   module _ (name : List ℕ) (asked : request ≡ Some (Suggest name)) (low : result ≤ 3) where
     -- the bytes that were given, with their answer
     abbrev IsAnsweredRead : Type 0
     IsAnsweredRead = (bytes : List ℕ) × IsGivenFile old new name bytes × IsAnswered bytes
 
-    of_due : (text : List ℕ) → Appends sink.written sink_now.written text
+    of_due : (text : List ℕ) → Appends sink sink_now text
         → IsDueForFile old new name (λ bytes. IsSuggestionOf bytes result text) result text → IsAnsweredRead
     of_due text whole (inl none) = absurd (omega (arith, low, unread_status result text _ _ _ _ _ _ none))
     of_due text whole (inr due) = (due.0, due.1, record { text = text; answer = due.2; whole = whole })

@@ -100,18 +100,20 @@ IsDueFor reclaimers (Some (Suggest name)) old new status text =
 IsDueFor reclaimers (Some (Locate name claims)) old new status text =
     IsDueForPair old new name claims largest_file (λ bytes second. IsLocationOf bytes second status text) status text
 
--- the sink took a part of the text alone: its count rose or can't rise, and its room was less than the text
+-- the sink took a part of the text alone: its count rose or can't rise, and its room was less than the text and is
+-- used up
 pub record IsUnwritten (text : List ℕ) (old new : KnownSink) : Type 0 where
-  pub part : AppendsPart old.written new.written text
+  pub part : AppendsPart old new text
   pub rose : Rose old.faults new.faults
   pub room : old.room < length text
+  pub full : new.room ≡ 0
 
 -- what was written for a due status: the whole text, or a part of it and the cause
 pub record Ends (status : ℕ) (text : List ℕ) (old new : KnownSink) (result : ℕ) : Type 0 where
   pub only : (result ≡ status) ⊎ ((result ≡ unwritten) ⊎ (result ≡ no_memory))
-  pub whole : result ≡ status → Appends old.written new.written text
+  pub whole : result ≡ status → Appends old new text
   pub failed : result ≡ unwritten → IsUnwritten text old new
-  pub memory : result ≡ no_memory → AppendsPart old.written new.written text
+  pub memory : result ≡ no_memory → AppendsPart old new text
 
 -- the due text was written as far as it went
 pub record IsWritten
@@ -125,5 +127,5 @@ pub record IsWritten
 -- memory ran out before a text was made, or the due text was written as far as it went
 abbrev pub Outcome : List Meanings → Option Request → KnownFiles → KnownFiles → KnownSink → KnownSink → ℕ → Type 0
 Outcome reclaimers request old new sink sink_now result =
-    ((result ≡ no_memory) × Appends sink.written sink_now.written [])
+    ((result ≡ no_memory) × Appends sink sink_now [])
     ⊎ IsWritten reclaimers request old new sink sink_now result

@@ -72,7 +72,7 @@ pub record IsAnswered (reclaimers : List Meanings) (request : Option Request) (f
     (sink sink_now : KnownSink) (result : ℕ) : Type 0 where
   pub text : List ℕ
   pub due : IsAnswerOf reclaimers request files result text
-  pub written : Appends sink.written sink_now.written text
+  pub written : Appends sink sink_now text
 
 -- the content of a file among the words is too long, and so it was written
 pub record IsToldTooLong (request : Option Request) (files : KnownFiles) (sink sink_now : KnownSink) (result : ℕ)
@@ -81,7 +81,7 @@ pub record IsToldTooLong (request : Option Request) (files : KnownFiles) (sink s
   pub among : Contains (files_of request) file
   pub long : IsSomeAnd (files.content file.0) (λ bytes. file.1 < length bytes)
   pub status_is : result ≡ unread
-  pub written : Appends sink.written sink_now.written read_too_long_text
+  pub written : Appends sink sink_now read_too_long_text
 
 -- ---- where it is given
 
@@ -98,7 +98,7 @@ pub record FillsRoom (reclaimers : List Meanings) (request : Option Request) (fi
   pub text : List ℕ
   pub due : ((status : ℕ) × IsAnswerOf reclaimers request files status text) ⊎ (text ≡ read_too_long_text)
   pub longer : sink.room < length text
-  pub part : AppendsPart sink.written sink_now.written text
+  pub part : AppendsPart sink sink_now text
   pub full : sink_now.room ≡ 0
 
 -- The status with such a room: 4 and 5 come only as `read too long`, and with each status but 4 and 6 what is due to

@@ -31,7 +31,7 @@ pub record FailsOtherwise (unit : FileUnit) (reclaimer : Meanings) (bytes : List
   pub comes : ComesTo (judged_of unit).flow unit.observer reclaimer (judged_of unit).schemes schedule end
   pub failed : end_status end ≡ fails
   pub allowed : IsAllowedEnd end
-  pub text : Appends sink.written sink_now.written (end_text end)
+  pub text : Appends sink sink_now (end_text end)
 
 -- where the words ask for a replay under a reclaimer that serves the file, by the bytes that the reads gave, and by
 -- the contents where they are told

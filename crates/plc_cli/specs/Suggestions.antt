@@ -64,7 +64,7 @@ pub record AreSuggested (bytes : List ℕ) (sink sink_now : KnownSink) : Type 0 
   pub spelled : IsFileOf bytes unit
   pub spots : List Spot
   pub least : IsLeastTypable unit.observer (skeleton_of (flow_of unit.file)) spots
-  pub written : Appends sink.written sink_now.written (suggested_text (flow_of unit.file) spots)
+  pub written : Appends sink sink_now (suggested_text (flow_of unit.file) spots)
 
 -- the bytes spell a program that has no typing, whatever spots it is marked by
 pub record HasNoTypingByClaims (bytes : List ℕ) : Type 0 where

@@ -31,6 +31,9 @@ pub(crate) trait Question: Drop {
 
 /// What is asked of a file and of a second one that says something of it.
 pub(crate) trait PairQuestion {
+    ghost use Rattle.std.specs.Prelude.{ℕ, List};
+    ghost use Rattle.plc_check.specs.declared.judged.Judged.{Judged as AJudged};
+
     /// The most bytes that the second file may have.
     ghost limit: { Self → ℕ };
 

@@ -66,8 +66,8 @@
 //! The clause `completeness` says when nothing but the files decides. Where their contents are told and short enough,
 //! and neither a count of theirs nor the sink's rises or stands at its last value, the status and the text are those
 //! due to the contents, or memory ran out. Where no count of the files rises, 5 comes only where a text that may be due
-//! is longer than the sink's room; then the sink took a beginning of it and has no room left. So where there is room for
-//! each, the statuses 4 and 5 come only as `read too long`. So it is over `HonestFiles` and a `FixedSink` with room
+//! is longer than the sink's room; then the sink took a beginning of it and has no room left. So where there is room
+//! for each, the statuses 4 and 5 come only as `read too long`. So it is over `HonestFiles` and a `FixedSink` with room
 //! (`honest_runs_are_answered`), and whatever its room, 5 comes only where what was written fills it
 //! (`honest_runs_fill_the_room`): that asks for no bound on the text, and none is known of a certificate.
 #![tactic(auto)]

@@ -4,7 +4,8 @@ use Rattle.plc_lex.specs.declared.token.TokenKind.{TokenKind}
 use Rattle.plc_lang.specs.declared.syntax.Op.{Op}
 use Rattle.plc_syntax.specs.declared.rest.Rest.{Rest}
 use Rattle.plc_syntax.specs.Stops.{AreOfOutline, OutlineFaultAt}
-use Rattle.plc_syntax.specs.Trees.{OutlineTree}
+use Rattle.plc_syntax.specs.Syntax.{spelled}
+use Rattle.plc_syntax.specs.Trees.{OutlineTree, outline_then}
 use Rattle.plc_scope.specs.declared.fault.ParseFault.{ParseFault}
 use Rattle.plc_scope.specs.declared.fault.ParseFault.TheVariants as faults
 use Rattle.plc_scope.specs.declared.scope.Scope.{Scope}
@@ -23,15 +24,15 @@ pub record Means (s : Scope) (ops : List Op) (at : ℕ) (ts : List TokenKind)
 pub record Within (before after : Rest) : Type 0 where
   pub end : after.at + length after.tokens.now ≡ before.at + length before.tokens.now
 
--- at most one outline stands at the front of tokens, so they have one meaning and one rest, and where they have none
--- no outline stands there
+-- at most one outline stands at the front of tokens, so they have one meaning and one rest, whatever places a tree of
+-- theirs has, and where they have none no outline stands there
 pub record OutlinesAreOne : Type 0 where
   pub meaning : (s : Scope) (ops : List Op) (at : ℕ) (ts : List TokenKind) (m n : Result Outline ParseFault)
       (r q : List TokenKind) → Means s ops at ts m r → Means s ops at ts n q → m ≡ n
-  pub rest : (at : ℕ) (ts : List TokenKind) (a b : OutlineTree) (r q : List TokenKind) → AreOfOutline a at ts r
-      → AreOfOutline b at ts q → r ≡ q
-  pub not_both : (at : ℕ) (ts : List TokenKind) (place : ℕ) (a : OutlineTree) (r : List TokenKind)
-      → OutlineFaultAt ts place → AreOfOutline a at ts r → ⊥
+  pub rest : (ts : List TokenKind) (a b : OutlineTree) (r q : List TokenKind) → ts ≡ spelled outline_then a r
+      → ts ≡ spelled outline_then b q → r ≡ q
+  pub not_both : (ts : List TokenKind) (place : ℕ) (a : OutlineTree) (r : List TokenKind) → OutlineFaultAt ts place
+      → ts ≡ spelled outline_then a r → ⊥
 
 -- the fault that they are answered with: of syntax at the place where none can stand there any more, else that of
 -- the meaning; memory may run out anywhere

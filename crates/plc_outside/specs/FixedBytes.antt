@@ -1,5 +1,5 @@
 -- A sink with a room that is there from the first, and what a write to it answers.
-use Rattle.std.specs.Prelude.{◌≡◌, ℕ, ◌<◌, ◌-◌, ◌++◌, ◌↔◌, List, length, min, take}
+use Rattle.std.specs.Prelude.{◌≡◌, ℕ, ◌<◌, ◌-◌, ◌++◌, ◌↔◌, List, length, min, take, None}
 use Rattle.std.specs.Prelude.{Result, IfOk, IfErr, OnErr, IsErrOf}
 use Rattle.plc_outside.specs.Known.{KnownSink}
 use Rattle.plc_outside.specs.Outside.{CountsFault}
@@ -18,7 +18,7 @@ left s = s.room - length s.written
 
 -- what is known of it: all bytes for which there is room are taken
 abbrev pub known_of : FixedBytes → KnownSink
-known_of s = record { written = s.written; faults = s.faults; room = left s }
+known_of s = record { written = s.written; held = None; faults = s.faults; room = left s }
 
 -- The answer to a write of so many bytes: as many as there is room for, and a failure where there is none.
 pub record AnswersFixedPut (s : FixedBytes) (size : ℕ) (result : Result ℕ SinkFault) : Type 0 where

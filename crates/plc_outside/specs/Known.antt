@@ -10,9 +10,11 @@ pub record KnownFiles : Type 0 where
   pub taken : ℕ
   pub given : List Reading
 
--- the bytes that it took, in order; how many writes failed; and how many more bytes are surely taken before a write
--- fails, which is 0 where nothing is promised
+-- the bytes that it took, in order; what the writer holds to which it hands them on, where there is one that tells it;
+-- how many writes failed; and how many more bytes are surely taken before a write fails, which is 0 where nothing is
+-- promised
 pub record KnownSink : Type 0 where
   pub written : List ℕ
+  pub held : Option (List ℕ)
   pub faults : ℕ
   pub room : ℕ

@@ -58,19 +58,20 @@ pub record CountsFault {T : Type 0} (old new : ℕ) (result : Result T SinkFault
   pub failed : IsErrOf result sink.Failed → new ≡ one_more old
   pub other : ¬ IsErrOf result sink.Failed → new ≡ old
 
--- these bytes and no others were appended
-abbrev pub Appends : List ℕ → List ℕ → List ℕ → Type 0
-Appends old new text = new ≡ old ++ text
+-- these bytes and no others were taken, and the writer holds them after the others, where it tells what it holds
+pub record Appends (old new : KnownSink) (text : List ℕ) : Type 0 where
+  pub written : new.written ≡ old.written ++ text
+  pub held : IfSome old.held (λ bytes. new.held ≡ Some (bytes ++ text))
 
 -- a prefix of the text was appended that is shorter than the text
-abbrev pub AppendsPart : List ℕ → List ℕ → List ℕ → Type 0
+abbrev pub AppendsPart : KnownSink → KnownSink → List ℕ → Type 0
 AppendsPart old new text = (n : ℕ) × (n < length text) × Appends old new (take n text)
 
 -- A write of a piece: its first bytes are appended, at least one where there are any, or else nothing is, with a cause.
 pub record Puts (old new : KnownSink) (piece : List ℕ) (result : Result ℕ SinkFault) : Type 0 where
-  pub appends : IfOk result (λ n. Appends old.written new.written (take n piece))
+  pub appends : IfOk result (λ n. Appends old new (take n piece))
   pub bound : IfOk result (λ n. n ≤ length piece)
   pub goes_on : IfOk result (λ n. 0 < length piece → 0 < n)
-  pub err : OnErr result (Appends old.written new.written [])
+  pub err : OnErr result (Appends old new [])
   pub cause : PutHasCause old.faults new.faults result
   pub room : LeavesRoom old.room new.room (length piece) result

@@ -17,4 +17,4 @@ pub record RealWrites : Type 0 where
 
 -- what is known of it: any write may fail, so no byte is surely taken
 abbrev pub known_of : RealWrites → KnownSink
-known_of s = record { written = s.taken; faults = s.faults; room = 0 }
+known_of s = record { written = s.taken; held = s.held; faults = s.faults; room = 0 }

@@ -1,7 +1,7 @@
 -- What is known of a sink in memory that grows; and a sink in memory that takes a few bytes a call and fails at given
 -- calls, with what a write to it answers.
 use Rattle.std.specs.Prelude.{◌≡◌, ℕ, ◌==◌, ◌||◌, ◌&&◌, ◌↔◌}
-use Rattle.std.specs.Prelude.{◌++◌, not, Bool, IsTrue, List, min, take}
+use Rattle.std.specs.Prelude.{◌++◌, not, Bool, IsTrue, List, min, take, None}
 use Rattle.std.specs.Prelude.{Result, IfOk, OnErr, IsErrOf}
 use Rattle.plc_outside.specs.Counts.{one_more, is_failing}
 use Rattle.plc_outside.specs.Known.{KnownSink}
@@ -11,7 +11,7 @@ use Rattle.plc_outside.specs.declared.sinks.SinkFault.TheVariants.{Failed}
 
 -- what is known of a sink that grows, by what was written: memory may run out at any byte
 abbrev pub known_bytes : List ℕ → KnownSink
-known_bytes bytes = record { written = bytes; faults = 0; room = 0 }
+known_bytes bytes = record { written = bytes; held = None; faults = 0; room = 0 }
 
 -- The most bytes of a call, the calls that are to fail, how many calls there were, what was written, and the count of
 -- faults.
@@ -24,7 +24,7 @@ pub record StoredBytes : Type 0 where
 
 -- what is known of it: it may fail at any call, so no byte is surely taken
 abbrev pub known_of : StoredBytes → KnownSink
-known_of s = record { written = s.written; faults = s.faults; room = 0 }
+known_of s = record { written = s.written; held = None; faults = s.faults; room = 0 }
 
 -- the next write of so many bytes fails: the call is to fail, or it would take nothing of a piece with bytes
 abbrev pub put_fails : StoredBytes → ℕ → Bool

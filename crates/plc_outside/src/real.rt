@@ -217,10 +217,6 @@ impl<W: Write + Drop> Sink for OutSink<W> {
     fn put(&mut self, piece: &[u8]) -> Result<usize, SinkFault>
         ensures puts { Puts (known_of self.old) (known_of self.new) piece.now result }
 
-        // Where the writer tells what it holds, that is after it.
-        ensures held { IfOk result (λ n. IfSome self.old.held (λ bytes.
-            self.new.held ≡ Some (bytes ++ take n piece.now))) }
-
         // Each fault is `Failed`, and counted.
         ensures fault { IfErr result (λ fault. fault ≡ SinkFault.Failed) }
         ensures counted { CountsFault self.old.faults self.new.faults result }

@@ -11,8 +11,8 @@ use crate::sinks::{Sink, SinkFault};
 /// An error is the sink's own, with its cause; then a prefix of the text was written that is
 /// shorter than the text. `Failed` comes only where the text is longer than the sink's room, and leaves none of it.
 pub fn write_text<S: Sink>(out: &mut S, text: &[u8]) -> Result<(), SinkFault>
-    ensures ok { OnOk result (Appends (S.known out.old).written (S.known out.new).written text.now) }
-    ensures err { OnErr result (AppendsPart (S.known out.old).written (S.known out.new).written text.now) }
+    ensures ok { OnOk result (Appends (S.known out.old) (S.known out.new) text.now) }
+    ensures err { OnErr result (AppendsPart (S.known out.old) (S.known out.new) text.now) }
     ensures cause { PutHasCause (S.known out.old).faults (S.known out.new).faults result }
     ensures room { IsErrOf result SinkFault.Failed → (S.known out.old).room < length text.now }
     ensures filled { IsErrOf result SinkFault.Failed → (S.known out.new).room ≡ 0 }

@@ -10,8 +10,8 @@ use plc_outside::{FixedSink, HonestFiles};
 use std::alloc::{AllocError, Global};
 use std::process::Abort;
 
-// Words, the rows that have their answer, how many reads they ask for, how many bytes an output is to take at each call,
-// and one call more than it then needs.
+// Words, the rows that have their answer, how many reads they ask for, how many bytes an output is to take at each
+// call, and one call more than it then needs.
 const COMMANDS: &[(&str, &str, u64, usize, usize)] = &[
     ("check hazards", CHECKED, 1, 150, 4),
     ("verify publish certificate", VERIFIED, 2, 20, 3),
