@@ -56,7 +56,7 @@ module _ (status : ℕ) (text : List ℕ) where
 
   -- what a write comes to
   module _ (low : status ≤ 4) (sink sink_now : KnownSink) where
-    pub all_written : Appends sink.written sink_now.written text → Ends status text sink sink_now status
+    pub all_written : Appends sink sink_now text → Ends status text sink sink_now status
     all_written a = record {
       only = inl refl;
       whole = λ e. a;
@@ -72,7 +72,7 @@ module _ (status : ℕ) (text : List ℕ) where
       memory = λ e. absurd (omega (arith, e));
     }
 
-    pub memory_ran_out : AppendsPart sink.written sink_now.written text → Ends status text sink sink_now no_memory
+    pub memory_ran_out : AppendsPart sink sink_now text → Ends status text sink sink_now no_memory
     memory_ran_out a = record {
       only = inr (inr refl);
       whole = λ e. absurd (omega (arith, low, e));

@@ -49,7 +49,7 @@ pub record IsHunted (request : Option Request) (old new : KnownFiles) (before no
   pub text : List ℕ
   pub due : IsDueFor request old new status text
   pub ends : Ends status text before.out now.out result
-  pub silent : fails < status → Appends before.said.written now.said.written []
+  pub silent : fails < status → Appends before.said now.said []
 
 -- memory ran out before a text was made, and nothing was written
 pub record IsNotMade (before now : Outputs) (result : ℕ) : Type 0 where

@@ -117,7 +117,7 @@ fn answer_to<F: Files>(alloc: Global, words: &[String], files: &mut F) -> Result
 
 /// Says what is said beside a text. What can't be said changes no status.
 fn say<T: Sink>(said: &mut T, hunted: &Hunted)
-    ensures silent { hunted.now.said.items ≡ [] → Appends (T.known said.old).written (T.known said.new).written [] }
+    ensures silent { hunted.now.said.items ≡ [] → Appends (T.known said.old) (T.known said.new) [] }
     ensures kept { (T.known said.old).faults ≤ (T.known said.new).faults }
 {
     let _ = write_text(said, &hunted.said);

@@ -18,6 +18,7 @@ returns-in-Err-Failed-clause-ends g c =
       rose = c.write_text.ensures.cause.failed (rw c.in-Err-Failed.is (ap Err c.in-Err-Failed.field-0-is));
       room = subst (λ text. (g.S.Sink.known c.args.out.now).room < length text) c.deref.ensures.value
           (c.write_text.ensures.room (rw c.in-Err-Failed.is (ap Err c.in-Err-Failed.field-0-is)));
+      full = c.write_text.ensures.filled (rw c.in-Err-Failed.is (ap Err c.in-Err-Failed.field-0-is));
     })
 
 -- memory ran out in the sink
