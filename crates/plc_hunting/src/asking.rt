@@ -85,11 +85,7 @@ fn wrong_words(alloc: Global) -> Result<Hunted, NoMemory>
 }
 
 /// The answer to a file.
-fn hunt_file<F: Files>(
-    alloc: Global,
-    files: &mut F,
-    request: Request,
-) -> Result<Hunted, NoMemory>
+fn hunt_file<F: Files>(alloc: Global, files: &mut F, request: Request) -> Result<Hunted, NoMemory>
     ensures kept { FilesAreKept (F.known files.old) (F.known files.new) }
     ensures due { IfOk result (λ h. IsDueForFile (F.known files.old) (F.known files.new) request.entry.file.now
         (λ bytes. IsHunt (freeing_view request.entry.freeing) bytes h.status h.text.items) h.status h.text.items) }
