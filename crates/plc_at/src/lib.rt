@@ -1,6 +1,6 @@
 //! Claims that a pointer local stands in certain locations of the observer: `read_claims` reads them for a file, and
 //! `extend` adds to the file's outline what they need beyond the types, so that where the extended outline holds each
-//! claim is true in every run (`plc_joint`).
+//! claim is true in every run (`plc_safety`).
 #![tactic(auto)]
 
 mod adding;

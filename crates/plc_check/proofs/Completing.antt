@@ -10,7 +10,7 @@ use Rattle.plc_flow.specs.declared.flow.Flow.{Flow}
 use Rattle.plc_flow.specs.Skeleton.{skeleton_of}
 use Rattle.plc_auto.specs.declared.observer.Observer.{Observer}
 use Rattle.plc_logic.specs.declared.clause.Outline.{Outline}
-use Rattle.plc_setting.specs.Marks.{program_uses_marks}
+use Rattle.plc_vocabulary.specs.Marks.{program_uses_marks}
 use Rattle.plc_oblig.specs.Obligations.{obligations}
 use Rattle.plc_cert.specs.declared.cert.Cert.{Cert}
 use Rattle.plc_cert.specs.Shape.{is_version}

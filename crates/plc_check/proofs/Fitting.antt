@@ -6,7 +6,7 @@ use Rattle.plc_parse.specs.Fit.{UnitFits}
 use Rattle.plc_parse.proofs.Answering.{spelled_fits}
 use Rattle.plc_flow.specs.Lowering.{made_of, flow_of, most_points}
 use Rattle.plc_flow.proofs.Fitting.{all_flows_fit}
-use Rattle.plc_setting.specs.Fit.{Fits}
+use Rattle.plc_vocabulary.specs.Fit.{Fits}
 use Rattle.plc_check.specs.declared.judged.Judged.{Judged}
 use Rattle.plc_check.specs.declared.judged.LoadFault.{LoadFault}
 use Rattle.plc_check.specs.Fit.{FilesFit, JudgedFits}

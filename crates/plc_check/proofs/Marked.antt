@@ -7,7 +7,7 @@ use Rattle.plc_syntax.specs.Syntax.{kinds}
 use Rattle.plc_logic.specs.Marks.{outline_uses_marks}
 use Rattle.plc_parse.proofs.Marked.{units_marked}
 use Rattle.plc_flow.proofs.KeptMarks.{marks_kept}
-use Rattle.plc_setting.specs.Marks.{program_uses_marks}
+use Rattle.plc_vocabulary.specs.Marks.{program_uses_marks}
 use Rattle.plc_check.specs.Marks.{FilesUseTheirMarks}
 
 pub files_marked : FilesUseTheirMarks

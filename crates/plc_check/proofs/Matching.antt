@@ -7,7 +7,7 @@ use Rattle.plc_flow.specs.declared.flow.Flow.{Flow}
 use Rattle.plc_logic.specs.declared.clause.Outline.{Outline}
 use Rattle.plc_ground.specs.declared.terms.Tree.{Tree}
 use Rattle.plc_ground.proofs.Refuting.{closed_has_no_model}
-use Rattle.plc_setting.specs.declared.obligations.Obligation.{Obligation}
+use Rattle.plc_vocabulary.specs.declared.obligations.Obligation.{Obligation}
 use Rattle.plc_oblig.specs.Obligations.{obligations}
 use Rattle.plc_oblig.specs.GroundSets.{ground_set}
 use Rattle.plc_oblig.specs.Outlines.{IsKept}

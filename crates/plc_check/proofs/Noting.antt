@@ -8,7 +8,7 @@ use Rattle.plc_logic.specs.declared.clause.Outline.{Outline}
 use Rattle.plc_ground.specs.declared.terms.GroundSet.{GroundSet}
 use Rattle.plc_ground.specs.declared.terms.Tree.{Tree}
 use Rattle.plc_ground.specs.Trees.{HasModel, Closes, SplitsOnce}
-use Rattle.plc_setting.specs.declared.obligations.Obligation.{Obligation}
+use Rattle.plc_vocabulary.specs.declared.obligations.Obligation.{Obligation}
 use Rattle.plc_oblig.specs.Outlines.{IsKept}
 use Rattle.plc_oblig.specs.Alike.{IsNotedAs}
 use Rattle.plc_oblig.proofs.OneSet.{more_noted}

@@ -6,7 +6,7 @@ use Rattle.plc_flow.specs.Skeleton.{skeleton_of}
 use Rattle.plc_logic.specs.declared.clause.Outline.{Outline}
 use Rattle.plc_ground.specs.declared.terms.Tree.{Tree}
 use Rattle.plc_ground.specs.Trees.{SplitsOnce}
-use Rattle.plc_setting.specs.declared.obligations.Obligation.{Obligation}
+use Rattle.plc_vocabulary.specs.declared.obligations.Obligation.{Obligation}
 use Rattle.plc_oblig.specs.Obligations.{obligations}
 use Rattle.plc_oblig.specs.GroundSets.{ground_set}
 use Rattle.plc_cert.specs.declared.cert.Cert.{Cert}

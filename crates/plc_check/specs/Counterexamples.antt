@@ -2,7 +2,7 @@
 use Rattle.std.specs.Prelude.{◌≡◌, ◌++◌, ℕ, List, [], ◌∷◌, Option, Some, None, Contains, slice_get}
 use Rattle.plc_flow.specs.declared.flow.Flow.{Flow}
 use Rattle.plc_logic.specs.declared.clause.Outline.{Outline}
-use Rattle.plc_setting.specs.declared.obligations.Obligation.{Obligation}
+use Rattle.plc_vocabulary.specs.declared.obligations.Obligation.{Obligation}
 use Rattle.plc_ground.specs.declared.terms.Tree.{Tree}
 use Rattle.plc_ground.specs.Trees.{Closes, SplitsOnce}
 use Rattle.plc_oblig.specs.Obligations.{obligations}

@@ -1,6 +1,6 @@
 -- What every file keeps that bytes spell.
 use Rattle.std.specs.Prelude.{ℕ, List}
-use Rattle.plc_setting.specs.Fit.{Fits}
+use Rattle.plc_vocabulary.specs.Fit.{Fits}
 use Rattle.plc_oblig.specs.Outlines.{HasFewObligations, HasSmallSets}
 use Rattle.plc_parse.specs.declared.unit.Unit.{Unit as FileUnit}
 use Rattle.plc_parse.specs.Fit.{ObserverFits}

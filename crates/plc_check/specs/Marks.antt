@@ -4,7 +4,7 @@ use Rattle.plc_lex.specs.declared.token.Token.{Token}
 use Rattle.plc_lex.specs.Spelling.{AreTokensOf}
 use Rattle.plc_syntax.specs.Marks.{tokens_use_marks}
 use Rattle.plc_syntax.specs.Syntax.{kinds}
-use Rattle.plc_setting.specs.Marks.{program_uses_marks}
+use Rattle.plc_vocabulary.specs.Marks.{program_uses_marks}
 use Rattle.plc_check.specs.declared.judged.Judged.{Judged}
 use Rattle.plc_check.specs.Answered.{IsLoaded}
 

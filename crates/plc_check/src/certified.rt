@@ -1,6 +1,6 @@
 // What shows that a file is safe: the strongest typing, and a tree for each obligation.
 ghost use Rattle.std.specs.Prelude.{IfOk};
-ghost use Rattle.plc_setting.specs.Fit.{Fits};
+ghost use Rattle.plc_vocabulary.specs.Fit.{Fits};
 ghost use Rattle.plc_check.specs.Certified.{IsCertified};
 ghost use Rattle.plc_check.specs.Strongest.{IsStrongestTyping};
 

@@ -27,7 +27,7 @@ pub struct Judged {
 pub struct Loaded {
     /// What is judged of the file.
     pub judged: Judged,
-    /// Its tokens, for who shows where something stands in it.
+    /// Its tokens, for whoever shows where something stands in it.
     pub tokens: Items<Token>,
 }
 

@@ -1,7 +1,7 @@
 // The limits of an outline: how many obligations it has, and how many clauses the ground set of each. Both are
 // counted, no set is made, and no memory is taken.
 ghost use Rattle.std.specs.Prelude.{◌≡◌};
-ghost use Rattle.plc_setting.specs.Fit.{Fits};
+ghost use Rattle.plc_vocabulary.specs.Fit.{Fits};
 ghost use Rattle.plc_check.specs.Refusals.{IsPassedLimit, IsWithinLimits, IsLimited};
 
 use crate::judged::{Judged, LoadFault};

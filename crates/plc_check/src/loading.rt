@@ -2,7 +2,7 @@
 ghost use Rattle.std.specs.Prelude.{◌≡◌, ◌<◌, ◌≤◌, ◌+◌, ◌^◌, length, Ok, Err, IfOk, IfErr};
 ghost use Rattle.plc_base.specs.FileSizes.{largest_file};
 ghost use Rattle.plc_check.specs.Fit.{FilesFit, JudgedFits};
-ghost use Rattle.plc_check.specs.Answered.{IsLoaded, FilesAreUnique, line_of, place_of};
+ghost use Rattle.plc_check.specs.Answered.{IsLoaded, FilesAreUnique, place_of};
 ghost use Rattle.plc_check.specs.Marks.{FilesUseTheirMarks};
 ghost use Rattle.plc_lex.specs.Spelling.{AreTokensOf};
 ghost use Rattle.plc_lex.specs.Stops.{line_feeds};
@@ -17,7 +17,7 @@ use plc_auto::{Scheme, schemes_of};
 use plc_base::{Items, What1};
 use plc_flow::{FlowFault, lower};
 use plc_lex::{LexFault, Token, tokens};
-use plc_parse::{Unit, parse};
+use plc_parse::{Unit, line_at, parse};
 use plc_scope::ParseFault;
 use std::alloc::Global;
 
@@ -44,17 +44,6 @@ pub fn end_line(bytes: &[u8]) -> u32
         }
     }
     line
-}
-
-/// The line of a place among the tokens of the bytes.
-fn line_of(bytes: &[u8], tokens: &[Token], place: u32) -> u32
-    requires { length bytes.now ≤ largest_file }
-    ensures { result ≡ line_of bytes.now tokens.now place }
-{
-    match tokens.get(place as usize) {
-        Some(token) => token.line,
-        None => end_line(bytes),
-    }
 }
 
 /// The place of a fault, if it is told with one.
@@ -89,7 +78,7 @@ fn parse_refusal(bytes: &[u8], tokens: &[Token], fault: ParseFault) -> LoadFault
     match place_of(&fault) {
         Some(at) => LoadFault::Parse {
             fault,
-            line: line_of(bytes, tokens, at),
+            line: line_at(tokens, at, end_line(bytes)),
         },
         None => unplaced_refusal(fault),
     }

@@ -2,7 +2,7 @@
 // asked for: `check` asks for one. A ground set is kept only of those that were found. What is found goes into a list
 // that the caller owns, so that the loop owns nothing large.
 ghost use Rattle.std.specs.Prelude.{◌≡◌, [], IfOk};
-ghost use Rattle.plc_setting.specs.Fit.{Fits};
+ghost use Rattle.plc_vocabulary.specs.Fit.{Fits};
 ghost use Rattle.plc_oblig.specs.Programs.{ProgramFits, obligations_of};
 ghost use Rattle.plc_check.specs.Counterexamples.{IsFirstCounterexample};
 ghost use Rattle.plc_check.specs.Open.{AreOpen};

@@ -2,7 +2,7 @@
 // has the limits of an outline that is read, and they are tested in the same order, so that `check` and `certify`
 // take what comes of it as they take what `load` gives.
 ghost use Rattle.std.specs.Prelude.{◌≡◌};
-ghost use Rattle.plc_setting.specs.Fit.{Fits};
+ghost use Rattle.plc_vocabulary.specs.Fit.{Fits};
 ghost use Rattle.plc_check.specs.Outlined.{outlined, IsOutlined};
 
 use crate::judged::Judged;

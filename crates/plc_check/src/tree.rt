@@ -2,7 +2,7 @@
 // direct one where the obligation is still, else as the solver finds it. The sets are made one after another over the
 // same memory.
 ghost use Rattle.std.specs.Prelude.{◌≡◌, ◌<◌, [], IfOk, Contains, Some, length, slice_get};
-ghost use Rattle.plc_setting.specs.Fit.{Fits};
+ghost use Rattle.plc_vocabulary.specs.Fit.{Fits};
 ghost use Rattle.plc_oblig.specs.Programs.{ProgramFits, obligations_of};
 ghost use Rattle.plc_check.specs.Counterexamples.{IsShown, NotedHaveTrees, AddsShown, AreShown};
 

@@ -1,6 +1,6 @@
 // The verdict on what is judged, by its types and by its outline.
 ghost use Rattle.std.specs.Prelude.{◌≡◌, IfOk};
-ghost use Rattle.plc_setting.specs.Fit.{Fits};
+ghost use Rattle.plc_vocabulary.specs.Fit.{Fits};
 ghost use Rattle.plc_check.specs.declared.verdict.Verdict.TheVariants.{Unproved};
 ghost use Rattle.plc_check.specs.Strongest.{IsStrongestTyping, IsTypedAs};
 ghost use Rattle.plc_check.specs.Verdicts.{IsVerdictOn};

@@ -16,7 +16,7 @@ use Rattle.plc_check.specs.Answered.{judged_of}
 use Rattle.plc_check.specs.Certified.{IsCertified}
 use Rattle.plc_check.proofs.Readable.{read_and_valid}
 use Rattle.plc_check.proofs.Unique.{one_file}
-use Rattle.plc_texts.specs.Certificates.{verified_text}
+use Rattle.plc_answers.specs.Certificates.{verified_text}
 use Rattle.plc_cli.specs.Certificates.{IsCertificateOf, IsCertificateJudged, IsCertificateAnswered, IsVerificationOf}
 use Rattle.plc_cli.specs.Certificates.{certified_status, certified_text}
 use Rattle.plc_cli.specs.Laws.{verified_line, CertifiedFilesVerify}

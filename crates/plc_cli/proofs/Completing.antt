@@ -9,7 +9,7 @@ use Rattle.plc_outside.specs.Known.{KnownFiles, KnownSink}
 use Rattle.plc_outside.specs.Outside.{Rose, Appends}
 use Rattle.plc_outside.specs.Reading.{Reading}
 use Rattle.plc_reclaim.specs.Meanings.{Meanings}
-use Rattle.plc_texts.specs.Refusals.{read_too_long_text}
+use Rattle.plc_answers.specs.Refusals.{read_too_long_text}
 use Rattle.plc_cli.specs.Answer.{IsReplayOf, IsDueFor, IsWritten, Outcome}
 use Rattle.plc_cli.specs.Certificates.{IsVerificationOf}
 use Rattle.plc_cli.specs.Completeness.{files_of, AreTold, AreShort, NoneRose, IsAnswerOf, IsAnswered, IsToldTooLong}

@@ -8,15 +8,15 @@ use Rattle.plc_parse.specs.declared.unit.Unit.{Unit as FileUnit}
 use Rattle.plc_flow.specs.Lowering.{flow_of}
 use Rattle.plc_type.specs.declared.env.Env.{Env}
 use Rattle.plc_reclaim.specs.Meanings.{Meanings}
-use Rattle.plc_setting.specs.Fit.{Fits}
+use Rattle.plc_vocabulary.specs.Fit.{Fits}
 use Rattle.plc_oblig.specs.Outlines.{OutlineHolds}
 use Rattle.plc_run.specs.Run.{NeverRaces}
 use Rattle.plc_run.proofs.Observed.{observed}
 use Rattle.plc_sound.proofs.Moves.{sound}
 use Rattle.plc_erasure.proofs.Runs.{erasure, true_claims}
-use Rattle.plc_held.proofs.Kept.{held_outlines}
-use Rattle.plc_joint.specs.Located.{ClaimsAreTrue, LocatedClaimsAreTrue}
-use Rattle.plc_joint.proofs.Located.{located_claims}
+use Rattle.plc_outline_sound.proofs.Kept.{held_outlines}
+use Rattle.plc_safety.specs.Located.{ClaimsAreTrue, LocatedClaimsAreTrue}
+use Rattle.plc_safety.proofs.Located.{located_claims}
 use Rattle.plc_at.specs.declared.claim.LocationClaim.{LocationClaim}
 use Rattle.plc_at.specs.Claims.{ClaimFits}
 use Rattle.plc_at.specs.Extended.{added_items}

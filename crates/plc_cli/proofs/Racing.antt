@@ -4,9 +4,9 @@ use Rattle.plc_flow.specs.Lowering.{flow_of}
 use Rattle.plc_run.specs.Run.{NeverRaces}
 use Rattle.plc_sound.proofs.Runs.{true_claims_suffice}
 use Rattle.plc_erasure.proofs.Runs.{true_claims}
-use Rattle.plc_held.proofs.Kept.{held_claims}
-use Rattle.plc_joint.proofs.Joint.{claims_suffice, held_suffices}
-use Rattle.plc_joint.specs.Joint.{TypedAndHeldProgramsAreSafe}
+use Rattle.plc_outline_sound.proofs.Kept.{held_claims}
+use Rattle.plc_safety.proofs.Joint.{claims_suffice, held_suffices}
+use Rattle.plc_safety.specs.Joint.{TypedAndHeldProgramsAreSafe}
 use Rattle.plc_parse.specs.declared.unit.Unit.{Unit as FileUnit}
 use Rattle.plc_check.specs.Loading.{IsFileOf}
 use Rattle.plc_check.proofs.Fitting.{all_files_fit}

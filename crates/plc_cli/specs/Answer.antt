@@ -12,8 +12,8 @@ use Rattle.plc_sched.specs.declared.fault.SchedFault.TheVariants as sched
 use Rattle.plc_sched.specs.Schedules.{IsScheduleOf, IsScheduleFault, IsWithinLimits}
 use Rattle.plc_reclaim.specs.Meanings.{Meanings}
 use Rattle.plc_replay.specs.Outcome.{ComesTo}
-use Rattle.plc_texts.specs.Refusals.{words_refused_text}
-use Rattle.plc_texts.specs.Replays.{schedule_fault_text, end_text}
+use Rattle.plc_answers.specs.Refusals.{words_refused_text}
+use Rattle.plc_answers.specs.Replays.{schedule_fault_text, end_text}
 use Rattle.plc_cli.specs.Certificates.{IsCertificateOf, IsVerificationOf}
 use Rattle.plc_cli.specs.Files.{IsAnsweredFile, IsTold, IsAnswerTo, IsPrintOf}
 use Rattle.plc_cli.specs.Reads.{IsDueForFile, IsDueForPair}

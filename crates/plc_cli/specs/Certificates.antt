@@ -12,7 +12,7 @@ use Rattle.plc_check.specs.declared.certified.Certified.{Certified}
 use Rattle.plc_check.specs.declared.certified.Certified.TheVariants.{Yes, No}
 use Rattle.plc_check.specs.Answered.{judged_of}
 use Rattle.plc_check.specs.Certified.{IsCertified}
-use Rattle.plc_texts.specs.Certificates.{certificate_line, certificate_fault_text, verified_text, invalid_text}
+use Rattle.plc_answers.specs.Certificates.{certificate_line, certificate_fault_text, verified_text, invalid_text}
 use Rattle.plc_cli.specs.Files.{IsAnsweredFile, IsTold}
 use Rattle.plc_cli.specs.Statuses.{holds, fails, refused}
 use Rattle.plc_cli.specs.Verdicts.{verdict_status, verdict_text}

@@ -7,7 +7,7 @@ use Rattle.plc_outside.specs.HonestFiles as honest
 use Rattle.plc_outside.specs.Known.{KnownFiles, KnownSink}
 use Rattle.plc_outside.specs.Outside.{Rose, Appends, AppendsPart}
 use Rattle.plc_reclaim.specs.Meanings.{Meanings}
-use Rattle.plc_texts.specs.Refusals.{read_too_long_text, words_refused_text}
+use Rattle.plc_answers.specs.Refusals.{read_too_long_text, words_refused_text}
 use Rattle.plc_cli.specs.Answer.{IsReplayOf}
 use Rattle.plc_cli.specs.Certificates.{IsCertificateOf, IsVerificationOf}
 use Rattle.plc_cli.specs.Files.{IsAnswerTo, IsPrintOf}

@@ -4,7 +4,7 @@ use Rattle.plc_parse.specs.declared.unit.Unit.{Unit as FileUnit}
 use Rattle.plc_flow.specs.Lowering.{flow_of}
 use Rattle.plc_oblig.specs.Obligations.{obligations}
 use Rattle.plc_check.specs.Loading.{IsFileOf}
-use Rattle.plc_texts.specs.Certificates.{verified_text}
+use Rattle.plc_answers.specs.Certificates.{verified_text}
 use Rattle.plc_cli.specs.Certificates.{IsCertificateOf, IsVerificationOf}
 use Rattle.plc_cli.specs.Statuses.{holds}
 

@@ -18,7 +18,7 @@ use Rattle.plc_xfer.specs.declared.fault.TypeFault.{TypeFault}
 use Rattle.plc_xfer.specs.Typings.{IsStuckAt}
 use Rattle.plc_oblig.specs.Outlines.{HasFewObligations, HasSmallSets}
 use Rattle.plc_run.specs.Run.{NeverRaces}
-use Rattle.plc_joint.specs.Located.{ClaimsAreTrue}
+use Rattle.plc_safety.specs.Located.{ClaimsAreTrue}
 use Rattle.plc_at.specs.declared.claim.LocationClaim.{LocationClaim}
 use Rattle.plc_at.specs.Claims.{SpellClaims, ClaimsStopAt}
 use Rattle.plc_at.specs.Extended.{AreLocated, IsFirstUnlocated, extended, most_items}
@@ -30,9 +30,9 @@ use Rattle.plc_check.specs.Answered.{HasLexFault, judged_of}
 use Rattle.plc_check.specs.Outlined.{outlined, IsOutlineLimit}
 use Rattle.plc_check.specs.Strongest.{IsStrongestTyping}
 use Rattle.plc_check.specs.Verdicts.{IsVerdictOn}
-use Rattle.plc_texts.specs.Claims.{claim_fault_text, unlocated_text, located_text}
-use Rattle.plc_texts.specs.Refusals.{lex_fault_text, limit_text}
-use Rattle.plc_texts.specs.Untyped.{untyped_text}
+use Rattle.plc_answers.specs.Claims.{claim_fault_text, unlocated_text, located_text}
+use Rattle.plc_answers.specs.Refusals.{lex_fault_text, limit_text}
+use Rattle.plc_answers.specs.Untyped.{untyped_text}
 use Rattle.plc_cli.specs.Files.{IsAnsweredFile, IsTold}
 use Rattle.plc_cli.specs.Reads.{IsGivenPair}
 use Rattle.plc_cli.specs.Requests.{Request, Locate}

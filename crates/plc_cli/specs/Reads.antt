@@ -3,7 +3,7 @@ use Rattle.std.specs.Prelude.{◌≡◌, ◌⊎◌, ℕ, ◌<◌, ◌≤◌, Lis
 use Rattle.plc_base.specs.FileSizes.{largest_file}
 use Rattle.plc_outside.specs.Known.{KnownFiles}
 use Rattle.plc_outside.specs.Reading.{Reading}
-use Rattle.plc_texts.specs.Refusals.{read_failed_text, read_too_long_text}
+use Rattle.plc_answers.specs.Refusals.{read_failed_text, read_too_long_text}
 use Rattle.plc_cli.specs.declared.reading.Content.{Content}
 use Rattle.plc_cli.specs.declared.reading.Content.TheVariants as one
 use Rattle.plc_cli.specs.declared.reading.Contents.{Contents}

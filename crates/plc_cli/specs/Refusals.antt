@@ -1,6 +1,6 @@
 -- The text of a file's refusal.
 use Rattle.std.specs.Prelude.{ℕ, List, []}
-use Rattle.plc_texts.specs.Refusals.{lex_fault_text, parse_fault_text, limit_text}
+use Rattle.plc_answers.specs.Refusals.{lex_fault_text, parse_fault_text, limit_text}
 use Rattle.plc_check.specs.declared.judged.LoadFault.{LoadFault}
 use Rattle.plc_check.specs.declared.judged.LoadFault.TheVariants.{Lex, Parse, Limit, Memory}
 

@@ -6,7 +6,7 @@ use Rattle.plc_check.specs.declared.verdict.Verdict.TheVariants.{Safe, Untyped, 
 use Rattle.plc_check.specs.Answered.{judged_of}
 use Rattle.plc_check.specs.Verdicts.{IsVerdictOn}
 use Rattle.plc_sample.specs.Sample.{sample_text}
-use Rattle.plc_texts.specs.Samples.{summary_text}
+use Rattle.plc_answers.specs.Samples.{summary_text}
 use Rattle.plc_cli.specs.Files.{IsAnsweredFile, IsTold}
 use Rattle.plc_cli.specs.Verdicts.{verdict_status, verdict_text}
 

@@ -11,7 +11,7 @@ use Rattle.plc_reclaim.specs.Meanings.{Meanings}
 use Rattle.plc_replay.specs.declared.end.End.{End}
 use Rattle.plc_replay.specs.Outcome.{ComesTo}
 use Rattle.plc_replay.specs.Laws.{Serves, IsAllowedEnd}
-use Rattle.plc_texts.specs.Replays.{end_text}
+use Rattle.plc_answers.specs.Replays.{end_text}
 use Rattle.plc_cli.specs.Reads.{Gave, reading}
 use Rattle.plc_cli.specs.Requests.{Request, Replay}
 use Rattle.plc_cli.specs.Statuses.{fails, end_status}

@@ -14,7 +14,7 @@ use Rattle.plc_suggest.specs.declared.suggestion.Suggestion.TheVariants.{Found, 
 use Rattle.plc_suggest.specs.Spots.{spots_of}
 use Rattle.plc_suggest.specs.Needed.{IsLeastTypable, IsNeverTypable}
 use Rattle.plc_suggest.specs.Suggestions.{IsSuggestion, most_spots}
-use Rattle.plc_texts.specs.Suggestions.{suggested_text, insufficient_text, spots_limit_text}
+use Rattle.plc_answers.specs.Suggestions.{suggested_text, insufficient_text, spots_limit_text}
 use Rattle.plc_cli.specs.Files.{IsAnsweredFile, IsTold}
 use Rattle.plc_cli.specs.Reads.{IsGivenFile}
 use Rattle.plc_cli.specs.Requests.{Request, Suggest}

@@ -3,9 +3,9 @@ use Rattle.std.specs.Prelude.{ℕ, List}
 use Rattle.plc_check.specs.declared.judged.Judged.{Judged}
 use Rattle.plc_check.specs.declared.verdict.Verdict.{Verdict}
 use Rattle.plc_check.specs.declared.verdict.Verdict.TheVariants.{Safe, Untyped, Unproved}
-use Rattle.plc_texts.specs.Typings.{safe_text}
-use Rattle.plc_texts.specs.Untyped.{untyped_text}
-use Rattle.plc_texts.specs.Unproved.{unproved_text}
+use Rattle.plc_answers.specs.Typings.{safe_text}
+use Rattle.plc_answers.specs.Untyped.{untyped_text}
+use Rattle.plc_answers.specs.Unproved.{unproved_text}
 use Rattle.plc_cli.specs.Statuses.{holds, fails}
 
 -- only a file that is safe holds

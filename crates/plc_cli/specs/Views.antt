@@ -8,9 +8,9 @@ use Rattle.plc_at.specs.declared.claim.LocationClaim.{LocationClaim}
 use Rattle.plc_at.specs.Claims.{SpellClaims, ClaimsStopAt, ClaimFits}
 use Rattle.plc_parse.specs.declared.unit.Unit.{Unit as FileUnit}
 use Rattle.plc_check.specs.declared.judged.Judged.{Judged}
-use Rattle.plc_texts.specs.Claims.{claim_fault_text}
+use Rattle.plc_answers.specs.Claims.{claim_fault_text}
 use Rattle.plc_sample.specs.Numbers.{sample_lines}
-use Rattle.plc_setting.specs.Fit.{Fits}
+use Rattle.plc_vocabulary.specs.Fit.{Fits}
 use Rattle.plc_cli.specs.declared.locating.Extension.{Extension}
 use Rattle.plc_cli.specs.declared.locating.Extension.TheVariants.{Extended, Answered}
 use Rattle.plc_cli.specs.declared.locating.ReadClaims.{ReadClaims}

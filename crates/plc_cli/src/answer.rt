@@ -1,14 +1,14 @@
 // An answer, and those that need no more than a refusal.
 ghost use Rattle.std.specs.Prelude.{◌≡◌, ◌≢◌, IfOk};
 ghost use Rattle.plc_check.specs.declared.judged.LoadFault.TheVariants.{Memory};
-ghost use Rattle.plc_texts.specs.Refusals.{words_refused_text};
+ghost use Rattle.plc_answers.specs.Refusals.{words_refused_text};
 ghost use Rattle.plc_cli.specs.Refusals.{load_fault_text};
 ghost use Rattle.plc_cli.specs.Statuses.{bad_words, refused};
 
 use crate::status::{BAD_WORDS, REFUSED};
+use plc_answers::{lex_fault_text, limit_text, parse_fault_text, words_refused_text};
 use plc_base::NoMemory;
 use plc_check::LoadFault;
-use plc_texts::{lex_fault_text, limit_text, parse_fault_text, words_refused_text};
 use std::alloc::Global;
 
 /// A status with its text.

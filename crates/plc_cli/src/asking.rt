@@ -3,7 +3,7 @@
 // `replay` loads its file itself, since a reclaimer is lent to it meanwhile.
 ghost use Rattle.std.specs.Prelude.{◌≡◌, ◌≤◌, IfOk, length};
 ghost use Rattle.plc_base.specs.FileSizes.{largest_file};
-ghost use Rattle.plc_setting.specs.Fit.{Fits};
+ghost use Rattle.plc_vocabulary.specs.Fit.{Fits};
 ghost use Rattle.plc_check.specs.Answered.{judged_of};
 ghost use Rattle.plc_cli.specs.Files.{IsAnsweredFile};
 ghost use Rattle.plc_cli.specs.Reads.{FilesAreKept, IsDueForFile, IsDueForPair};

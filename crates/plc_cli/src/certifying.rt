@@ -1,6 +1,6 @@
 // The certificate of a file that is safe, and the law that it is accepted.
 ghost use Rattle.std.specs.Prelude.{◌≡◌, IfOk};
-ghost use Rattle.plc_texts.specs.Certificates.{certificate_line};
+ghost use Rattle.plc_answers.specs.Certificates.{certificate_line};
 ghost use Rattle.plc_cli.specs.Certificates.{IsCertifiedAs};
 ghost use Rattle.plc_cli.specs.Laws.{CertifiedFilesVerify};
 ghost use Rattle.plc_cli.specs.Statuses.{holds};
@@ -9,10 +9,10 @@ use crate::answer::Answer;
 use crate::asking::Question;
 use crate::checking::verdict_answer;
 use crate::status::HOLDS;
+use plc_answers::certificate_line;
 use plc_base::NoMemory;
 use plc_cert::Cert;
 use plc_check::{Certified, Judged, certify};
-use plc_texts::certificate_line;
 use std::alloc::Global;
 
 /// The answer that writes a certificate.

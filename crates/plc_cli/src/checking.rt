@@ -6,9 +6,9 @@ ghost use Rattle.plc_cli.specs.Verdicts.{verdict_status, verdict_text};
 use crate::answer::Answer;
 use crate::asking::Question;
 use crate::status::{FAILS, HOLDS};
+use plc_answers::{FailedCondition, safe_text, unproved_text, untyped_text};
 use plc_base::NoMemory;
 use plc_check::{Judged, Verdict, check};
-use plc_texts::{FailedCondition, safe_text, unproved_text, untyped_text};
 use std::alloc::{AllocError, Global};
 
 /// The question for the verdict on a file.

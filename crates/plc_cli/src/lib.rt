@@ -18,7 +18,7 @@
 //! program, no run of which has such a step.
 //! This is so of every file, whatever its program retires and whatever its steps claim: the flow has a
 //! typing by the written rules, and its outline holds, so that each claim is true where it is made; from
-//! these two it follows (`plc_joint`). So it is of real files too, whose content no clause can tell: the
+//! these two it follows (`plc_safety`). So it is of real files too, whose content no clause can tell: the
 //! bytes that a read gave are noted for proofs alone. Running out of memory and faults of the outside
 //! aside, it ends so exactly where a typing exists and the outline holds.
 //!

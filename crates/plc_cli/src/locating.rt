@@ -4,13 +4,13 @@
 // file, those of the claims, the types, the claims under them, the limits of the longer outline.
 ghost use Rattle.std.specs.Prelude.{◌≡◌, ◌<◌, ◌≤◌, ◌^◌, IfOk, All, length};
 ghost use Rattle.plc_base.specs.FileSizes.{largest_file};
-ghost use Rattle.plc_setting.specs.Fit.{Fits};
+ghost use Rattle.plc_vocabulary.specs.Fit.{Fits};
 ghost use Rattle.plc_at.specs.Claims.{ClaimFits};
 ghost use Rattle.plc_check.specs.Strongest.{IsStrongestTyping};
 ghost use Rattle.plc_check.specs.Verdicts.{IsVerdictOn};
-ghost use Rattle.plc_texts.specs.Claims.{unlocated_text};
-ghost use Rattle.plc_texts.specs.Refusals.{limit_text};
-ghost use Rattle.plc_texts.specs.Untyped.{untyped_text};
+ghost use Rattle.plc_answers.specs.Claims.{unlocated_text};
+ghost use Rattle.plc_answers.specs.Refusals.{limit_text};
+ghost use Rattle.plc_answers.specs.Untyped.{untyped_text};
 ghost use Rattle.plc_cli.specs.Files.{IsTold};
 ghost use Rattle.plc_cli.specs.Locations.{located_verdict_text, IsAnsweredWith, AreClaimsAnswered, IsLocationAnswered};
 ghost use Rattle.plc_cli.specs.Statuses.{fails, refused};
@@ -22,15 +22,15 @@ use crate::answer::{Answer, refuse};
 use crate::asking::PairQuestion;
 use crate::checking::{verdict_status, verdict_text};
 use crate::status::FAILS;
+use plc_answers::{
+    FailedCondition, claim_fault_text, lex_fault_text, limit_text, located_text, unlocated_text,
+    untyped_text,
+};
 use plc_at::{AtFault, ClaimFault, LocationClaim, extend, read_claims};
 use plc_base::{Items, NoMemory, What1};
 use plc_check::{Judged, OutlineFault, Typed, Verdict, check, strongest_typing, with_outline};
 use plc_lex::{LexFault, Token, tokens};
 use plc_logic::Outline;
-use plc_texts::{
-    FailedCondition, claim_fault_text, lex_fault_text, limit_text, located_text, unlocated_text,
-    untyped_text,
-};
 use plc_type::Env;
 use std::alloc::{AllocError, Global};
 use std::mem;

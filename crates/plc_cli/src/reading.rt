@@ -5,9 +5,9 @@ ghost use Rattle.plc_cli.specs.Reads.{FilesAreKept, IsContentOf, AreContentsOf};
 
 use crate::answer::Answer;
 use crate::status::UNREAD;
+use plc_answers::{read_failed_text, read_too_long_text};
 use plc_base::{LARGEST_FILE, NoMemory};
 use plc_outside::{FileFault, Files};
-use plc_texts::{read_failed_text, read_too_long_text};
 use std::alloc::Global;
 
 /// What a read came to.

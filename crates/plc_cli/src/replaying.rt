@@ -10,13 +10,13 @@ ghost use Rattle.plc_cli.specs.Statuses.{end_status};
 use crate::answer::{Answer, refusal, refuse};
 use crate::reading::{Contents, read_both};
 use crate::status::{FAILS, HOLDS};
+use plc_answers::{end_text, schedule_fault_text};
 use plc_base::{LARGEST_SCHEDULE, NoMemory};
 use plc_check::{Judged, load};
 use plc_outside::Files;
 use plc_reclaim::Reclaimer;
 use plc_replay::{End, replay};
 use plc_sched::{SchedFault, Schedule, read_schedule};
-use plc_texts::{end_text, schedule_fault_text};
 use std::alloc::Global;
 
 /// The status of an end: that of a failure where it isn't the end of the schedule.

@@ -8,10 +8,10 @@ ghost use Rattle.plc_cli.specs.Verdicts.{verdict_status};
 use crate::answer::Answer;
 use crate::asking::{Question, answer_bytes};
 use crate::checking::{verdict_status, verdict_text};
+use plc_answers::summary_text;
 use plc_base::NoMemory;
 use plc_check::{Judged, Verdict, check};
 use plc_sample::text;
-use plc_texts::summary_text;
 use std::alloc::{AllocError, Global};
 
 /// The text of a verdict: one line where the sample is safe.

@@ -6,10 +6,10 @@ ghost use Rattle.plc_cli.specs.Suggestions.{IsSuggestionAnswered, suggestion_sta
 use crate::answer::{Answer, refuse};
 use crate::asking::Question;
 use crate::status::{FAILS, HOLDS};
+use plc_answers::{FailedCondition, insufficient_text, spots_limit_text, suggested_text};
 use plc_base::NoMemory;
 use plc_check::Judged;
 use plc_suggest::{SuggestFault, Suggestion, suggest};
-use plc_texts::{FailedCondition, insufficient_text, spots_limit_text, suggested_text};
 use std::alloc::Global;
 
 /// The answer that says a suggestion: it fails where no claims are enough.

@@ -1,16 +1,16 @@
 // Whether a certificate is valid for a file. No verdict is made: neither the inference nor the solver is called.
 ghost use Rattle.std.specs.Prelude.{IfOk};
 ghost use Rattle.plc_base.specs.FileSizes.{largest_certificate};
-ghost use Rattle.plc_setting.specs.Fit.{Fits};
+ghost use Rattle.plc_vocabulary.specs.Fit.{Fits};
 ghost use Rattle.plc_cli.specs.Certificates.{IsCertificateAnswered, IsCertificateJudged};
 
 use crate::answer::{Answer, refuse};
 use crate::asking::PairQuestion;
 use crate::status::{FAILS, HOLDS};
+use plc_answers::{certificate_fault_text, invalid_text, verified_text};
 use plc_base::NoMemory;
 use plc_cert::{Cert, CertFault, read};
 use plc_check::Judged;
-use plc_texts::{certificate_fault_text, invalid_text, verified_text};
 use plc_verify::{VerifyFault, verify};
 use std::alloc::Global;
 

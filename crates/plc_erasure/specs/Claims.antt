@@ -6,8 +6,8 @@ use Rattle.plc_lang.specs.declared.syntax.Primitive.TheVariants.{Active}
 use Rattle.plc_auto.specs.declared.event.Event.{Event}
 use Rattle.plc_auto.specs.declared.observer.Observer.{Observer}
 use Rattle.plc_flow.specs.declared.flow.Flow.{Flow}
-use Rattle.plc_threads.specs.declared.words.Move.{Move}
-use Rattle.plc_threads.specs.declared.words.Move.TheVariants.{Start, Step as Take, Return, Free}
+use Rattle.plc_moves.specs.declared.words.Move.{Move}
+use Rattle.plc_moves.specs.declared.words.Move.TheVariants.{Start, Step as Take, Return, Free}
 use Rattle.plc_mem.specs.State.{State}
 use Rattle.plc_mem.specs.Outcomes.{address_or_null}
 use Rattle.plc_run.specs.Run.{Configuration, Fine, Moves, Run, begin, more, execute}

@@ -7,7 +7,7 @@ use Rattle.plc_auto.specs.declared.event.Event.{Event}
 use Rattle.plc_auto.specs.declared.observer.Observer.{Observer}
 use Rattle.plc_flow.specs.declared.flow.Step.{Step}
 use Rattle.plc_flow.specs.declared.flow.Flow.{Flow}
-use Rattle.plc_threads.specs.declared.words.Move.{Move}
+use Rattle.plc_moves.specs.declared.words.Move.{Move}
 use Rattle.plc_mem.specs.State.{State}
 use Rattle.plc_mem.specs.Primitives.{race_of, goes, after}
 use Rattle.plc_mem.specs.Outcomes.{address_or_null}

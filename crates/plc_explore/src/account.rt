@@ -12,8 +12,8 @@ use plc_base::NoMemory;
 use plc_flow::Step;
 use plc_lang::Var;
 use plc_mem::RaceKind;
+use plc_moves::Move;
 use plc_run::{Config, Moved};
-use plc_threads::Move;
 use std::alloc::Global;
 
 /// A line of the schedule, and the line of the file whose step it takes, if it takes one.

@@ -5,8 +5,8 @@ use crate::frees::Frees;
 use crate::program::Program;
 use crate::running::{Running, mover};
 use plc_base::NoMemory;
+use plc_moves::Move;
 use plc_run::{Config, Moved};
-use plc_threads::Move;
 use std::alloc::Global;
 
 /// A recorded run among so many threads, and which of its moves are kept.

@@ -3,7 +3,7 @@
 use plc_base::FieldId;
 use plc_lang::{Prim, Var, assigned, risked};
 use plc_mem::{Cell, Memory};
-use plc_threads::Place;
+use plc_moves::Place;
 
 /// A step of a thread that races at one of its primitives, and memory as it was before the step.
 #[derive(Clone, Copy)]

@@ -8,8 +8,8 @@ use crate::program::Program;
 use plc_auto::Event;
 use plc_base::NoMemory;
 use plc_flow::Step;
+use plc_moves::{Move, StartFault};
 use plc_run::{Config, Moved};
-use plc_threads::{Move, StartFault};
 use std::alloc::Global;
 
 /// Where a run stands, and who says what is freed in it.

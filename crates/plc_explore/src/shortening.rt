@@ -10,7 +10,7 @@ use crate::program::Program;
 use crate::running::mover;
 use crate::trail::Trail;
 use plc_base::{Items, NoMemory};
-use plc_threads::Move;
+use plc_moves::Move;
 use std::alloc::Global;
 
 /// Which moves of a run are kept, and what was seen of them when they were followed last.

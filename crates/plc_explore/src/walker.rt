@@ -14,8 +14,8 @@ use crate::trail::Trail;
 use plc_base::{Items, NoMemory, OpId};
 use plc_flow::{Point, Step};
 use plc_lang::{Prim, Var, assigned, count_parameters, has_new};
+use plc_moves::Move;
 use plc_run::{Config, Moved};
-use plc_threads::Move;
 use std::alloc::Global;
 
 /// The most moves of a run that is drawn, frees aside.

@@ -2,7 +2,7 @@
 use Rattle.std.specs.Prelude.{ℕ}
 use Rattle.plc_flow.specs.declared.flow.Flow.{Flow}
 use Rattle.plc_flow.specs.declared.points.Point.{Point}
-use Rattle.plc_threads.specs.Fit.{HoldsAt}
+use Rattle.plc_moves.specs.Fit.{HoldsAt}
 use Rattle.plc_gc.specs.State.{GcState}
 use Rattle.plc_gc.specs.Threads.{LocalsFit}
 

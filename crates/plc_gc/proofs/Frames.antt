@@ -26,7 +26,7 @@ use Rattle.plc_gc.proofs.Views.{locals-with_same}
 use Rattle.plc_gc.specs.Primitives.{after_call, goes, after}
 use Rattle.plc_gc.specs.Run.{turn, execute}
 use Rattle.plc_gc.specs.Fit.{Frame, frame, FrameHasAll, SlotIn}
-use Rattle.plc_threads.proofs.Places.{held_below}
+use Rattle.plc_moves.proofs.Places.{held_below}
 
 -- thread t held locals l before and holds m now; all else has its old frame
 pub record KeepsFrame (t : ℕ) (g : GcState) (l : Locals) (new : GcState) (m : Locals) : Type 0 where

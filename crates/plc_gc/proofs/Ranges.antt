@@ -13,8 +13,8 @@ use Rattle.plc_lang.specs.declared.syntax.Primitive.TheVariants.{Refresh, Refres
 use Rattle.plc_lang.specs.declared.syntax.Primitive.TheVariants.{MarkTest, Call, Done, Active, Ghost}
 use Rattle.plc_base.specs.Functions.{is_retire}
 use Rattle.plc_flow.specs.declared.flow.Flow.{Flow}
-use Rattle.plc_threads.specs.declared.words.Move.{Move}
-use Rattle.plc_threads.specs.declared.words.Move.TheVariants.{Start, Step as Take, Return, Free}
+use Rattle.plc_moves.specs.declared.words.Move.{Move}
+use Rattle.plc_moves.specs.declared.words.Move.TheVariants.{Start, Step as Take, Return, Free}
 use Rattle.plc_base.proofs.Tables.{get-replicate}
 use Rattle.plc_gc.specs.declared.slot.Slot.{Slot}
 use Rattle.plc_gc.specs.declared.slot.Slot.TheVariants.{Shared as in_shared, Local as in_local}

@@ -5,11 +5,11 @@ use Rattle.plc_base.specs.Tables.{put_at}
 use Rattle.plc_lang.specs.declared.syntax.Op.{Op}
 use Rattle.plc_flow.specs.declared.flow.Step.{Step}
 use Rattle.plc_flow.specs.declared.flow.Flow.{Flow}
-use Rattle.plc_threads.specs.declared.words.Move.{Move}
-use Rattle.plc_threads.specs.declared.words.Move.TheVariants.{Start, Step as Take, Return, Free}
+use Rattle.plc_moves.specs.declared.words.Move.{Move}
+use Rattle.plc_moves.specs.declared.words.Move.TheVariants.{Start, Step as Take, Return, Free}
 use Rattle.plc_flow.specs.declared.points.Point.{Point}
-use Rattle.plc_threads.specs.Standing.{begun, step_of, at_exit}
-use Rattle.plc_threads.proofs.Moves.{begun_so, begins_so, taken_so, takes_so, exit_so, ends_so}
+use Rattle.plc_moves.specs.Standing.{begun, step_of, at_exit}
+use Rattle.plc_moves.proofs.Moves.{begun_so, begins_so, taken_so, takes_so, exit_so, ends_so}
 use Rattle.plc_gc.specs.State.{GcState, with_locals, starting}
 use Rattle.plc_gc.specs.Run.{GcConfiguration, Moves, execute, point_of}
 use Rattle.plc_gc.specs.Reach.{started, start_from, ended_as, taken, step_from, return_from, reach}

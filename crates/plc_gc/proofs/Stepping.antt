@@ -5,8 +5,8 @@ use Rattle.plc_base.specs.declared.ids.OpId.{OpId}
 use Rattle.plc_base.specs.declared.memory.NoMemory.{NoMemory}
 use Rattle.plc_flow.specs.declared.flow.Step.{Step}
 use Rattle.plc_flow.specs.declared.flow.Flow.{Flow}
-use Rattle.plc_threads.specs.declared.words.Move.{Move}
-use Rattle.plc_threads.specs.declared.words.Move.TheVariants.{Start, Step as Take, Return, Free}
+use Rattle.plc_moves.specs.declared.words.Move.{Move}
+use Rattle.plc_moves.specs.declared.words.Move.TheVariants.{Start, Step as Take, Return, Free}
 use Rattle.plc_flow.specs.declared.points.Point.{Point}
 use Rattle.plc_flow.specs.WellFormed.{FlowFits}
 use Rattle.plc_flow.specs.WellSorted.{FlowIsWellSorted}
@@ -18,7 +18,7 @@ use Rattle.plc_gc.specs.Threads.{GcConfigurationFits}
 use Rattle.plc_gc.specs.Reach.{start_from, step_from, return_from, reach, reached, answer}
 use Rattle.plc_gc.specs.Position.{threads_of, IsOfRun, Answers}
 use Rattle.plc_base.proofs.Tables.{length_put}
-use Rattle.plc_threads.proofs.Moves.{Takes}
+use Rattle.plc_moves.proofs.Moves.{Takes}
 use Rattle.plc_gc.proofs.Ranges.{ranged_run, ranged_given, ranged_first}
 use Rattle.plc_gc.proofs.Threads.{ready, ready_held, init_names, run_fits, busy_at, step_fits}
 use Rattle.plc_gc.proofs.Frames.{execute_keeps}

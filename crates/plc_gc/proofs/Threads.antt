@@ -14,8 +14,8 @@ use Rattle.plc_lang.specs.WellSorted.{IsWellSorted, AreWellSorted}
 use Rattle.plc_flow.specs.declared.flow.Step.{Step}
 use Rattle.plc_flow.specs.declared.flow.Gate.{Gate}
 use Rattle.plc_flow.specs.declared.flow.Flow.{Flow}
-use Rattle.plc_threads.specs.declared.words.Move.{Move}
-use Rattle.plc_threads.specs.declared.words.Move.TheVariants.{Start, Step as Take, Return, Free}
+use Rattle.plc_moves.specs.declared.words.Move.{Move}
+use Rattle.plc_moves.specs.declared.words.Move.TheVariants.{Start, Step as Take, Return, Free}
 use Rattle.plc_flow.specs.declared.points.Point.{Point}
 use Rattle.plc_flow.specs.Points.{steps_from}
 use Rattle.plc_flow.specs.WellFormed.{FlowFits, IsPointOf}
@@ -26,8 +26,8 @@ use Rattle.plc_gc.specs.State.{GcState, Locals, null_pointer, with_locals, first
 use Rattle.plc_gc.specs.declared.slot.Pointer.{Pointer}
 use Rattle.plc_gc.specs.Run.{GcConfiguration, point_of, Moves, GcRun, begin, more, beginning, initialised, first_configuration}
 use Rattle.plc_gc.specs.Fit.{Frame, frame, WriteIn, FrameHasAll}
-use Rattle.plc_threads.specs.Fit.{ThreadFits}
-use Rattle.plc_threads.proofs.Fit.{put_is_new, thread_came, all_idle, idle_again}
+use Rattle.plc_moves.specs.Fit.{ThreadFits}
+use Rattle.plc_moves.proofs.Fit.{put_is_new, thread_came, all_idle, idle_again}
 use Rattle.plc_gc.specs.Threads.{LocalsFit, GcConfigurationFits}
 use Rattle.plc_gc.proofs.Busy.{IsBusyAt}
 use Rattle.plc_gc.proofs.Frames.{Keeps, frame_held, execute_keeps}

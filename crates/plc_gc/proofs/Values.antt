@@ -17,8 +17,8 @@ use Rattle.plc_lang.specs.declared.syntax.Primitive.TheVariants.{Refresh, Refres
 use Rattle.plc_lang.specs.declared.syntax.Primitive.TheVariants.{MarkTest, Call, Done, Active, Ghost}
 use Rattle.plc_lang.specs.WellSorted.{IsWellSorted, AreWellSorted, ValueFits}
 use Rattle.plc_flow.specs.declared.flow.Flow.{Flow}
-use Rattle.plc_threads.specs.declared.words.Move.{Move}
-use Rattle.plc_threads.specs.declared.words.Move.TheVariants.{Start, Step as Take, Return, Free}
+use Rattle.plc_moves.specs.declared.words.Move.{Move}
+use Rattle.plc_moves.specs.declared.words.Move.TheVariants.{Start, Step as Take, Return, Free}
 use Rattle.plc_flow.specs.declared.flow.Step.{Step}
 use Rattle.plc_flow.specs.Points.{steps_from, leaves}
 use Rattle.plc_flow.specs.WellSorted.{FlowIsWellSorted}

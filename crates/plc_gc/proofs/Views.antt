@@ -6,7 +6,7 @@ use Rattle.std.proofs.lemmas.List.{get_or_past}
 use Rattle.std.specs.Option.{unwrap_or}
 use Rattle.plc_base.specs.Tables.{put_at}
 use Rattle.plc_base.proofs.Tables.{get-put_same, get-put_other, get-replicate, length_put}
-use Rattle.plc_threads.proofs.Holding.{held-put_same, held-put_other}
+use Rattle.plc_moves.proofs.Holding.{held-put_same, held-put_other}
 use Rattle.plc_lang.specs.declared.syntax.Field.{Field}
 use Rattle.plc_lang.specs.declared.syntax.Var.{Var}
 use Rattle.plc_lang.specs.declared.syntax.Var.TheVariants.{Shared, Local}

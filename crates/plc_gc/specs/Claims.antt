@@ -5,7 +5,7 @@ use Rattle.plc_lang.specs.declared.syntax.Primitive.TheVariants.{Active}
 use Rattle.plc_lang.specs.WellSorted.{is_claim}
 use Rattle.plc_flow.specs.declared.flow.Step.{Step}
 use Rattle.plc_flow.specs.declared.flow.Flow.{Flow}
-use Rattle.plc_threads.specs.declared.words.Move.{Move}
+use Rattle.plc_moves.specs.declared.words.Move.{Move}
 use Rattle.plc_flow.specs.declared.points.Point.{Point}
 use Rattle.plc_gc.specs.State.{GcState, is_retired}
 use Rattle.plc_gc.specs.Primitives.{node_at, goes, after}

@@ -1,9 +1,9 @@
 -- What the answers of a configuration in code say.
 use Rattle.std.specs.Prelude.{◌≡◌, ℕ, List, length, Some, None, Result, Ok, Err}
 use Rattle.plc_flow.specs.declared.flow.Flow.{Flow}
-use Rattle.plc_threads.specs.declared.words.Move.{Move}
-use Rattle.plc_threads.specs.declared.words.StartFault.{StartFault}
-use Rattle.plc_threads.specs.declared.words.StartFault.TheVariants as faults
+use Rattle.plc_moves.specs.declared.words.Move.{Move}
+use Rattle.plc_moves.specs.declared.words.StartFault.{StartFault}
+use Rattle.plc_moves.specs.declared.words.StartFault.TheVariants as faults
 use Rattle.plc_gc.specs.declared.config.GcMoved.{GcMoved}
 use Rattle.plc_gc.specs.declared.config.GcMoved.TheVariants as moved
 use Rattle.plc_gc.specs.Run.{GcConfiguration, GcRun, Moves, first_configuration}

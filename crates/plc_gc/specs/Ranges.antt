@@ -7,7 +7,7 @@ use Rattle.plc_lang.specs.declared.syntax.File.{File}
 use Rattle.plc_lang.specs.WellSorted.{IsWellSorted}
 use Rattle.plc_flow.specs.declared.flow.Flow.{Flow}
 use Rattle.plc_flow.specs.WellSorted.{FlowIsWellSorted}
-use Rattle.plc_threads.specs.declared.words.Move.{Move}
+use Rattle.plc_moves.specs.declared.words.Move.{Move}
 use Rattle.plc_gc.specs.declared.slot.Slot.TheVariants.{Shared as in_shared, Local as in_local}
 use Rattle.plc_gc.specs.declared.slot.Slot.TheVariants.{SharedMark as shared_mark, LocalMark as local_mark}
 use Rattle.plc_gc.specs.declared.slot.Map.{Map}

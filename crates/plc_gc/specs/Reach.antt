@@ -5,10 +5,10 @@ use Rattle.plc_base.specs.Tables.{put_at}
 use Rattle.plc_lang.specs.declared.syntax.Op.{Op}
 use Rattle.plc_flow.specs.declared.flow.Step.{Step}
 use Rattle.plc_flow.specs.declared.flow.Flow.{Flow}
-use Rattle.plc_threads.specs.declared.words.Move.{Move}
-use Rattle.plc_threads.specs.declared.words.Move.TheVariants.{Start, Step as Take, Return, Free}
+use Rattle.plc_moves.specs.declared.words.Move.{Move}
+use Rattle.plc_moves.specs.declared.words.Move.TheVariants.{Start, Step as Take, Return, Free}
 use Rattle.plc_flow.specs.declared.points.Point.{Point}
-use Rattle.plc_threads.specs.Standing.{begun, step_of, at_exit}
+use Rattle.plc_moves.specs.Standing.{begun, step_of, at_exit}
 use Rattle.plc_gc.specs.declared.config.GcMoved.{GcMoved}
 use Rattle.plc_gc.specs.declared.config.GcMoved.TheVariants as moved
 use Rattle.plc_gc.specs.State.{GcState, with_locals, starting}

@@ -6,8 +6,8 @@ use Rattle.plc_base.specs.declared.ids.OpId.{OpId}
 use Rattle.plc_flow.specs.declared.flow.Step.{Step}
 use Rattle.plc_flow.specs.declared.flow.Gate.{Gate}
 use Rattle.plc_flow.specs.declared.flow.Flow.{Flow}
-use Rattle.plc_threads.specs.declared.words.Move.{Move}
-use Rattle.plc_threads.specs.declared.words.Move.TheVariants.{Start, Step as Take, Return, Free}
+use Rattle.plc_moves.specs.declared.words.Move.{Move}
+use Rattle.plc_moves.specs.declared.words.Move.TheVariants.{Start, Step as Take, Return, Free}
 use Rattle.plc_flow.specs.declared.points.Point.{Point}
 use Rattle.plc_gc.specs.State.{GcState}
 use Rattle.plc_gc.specs.Run.{GcConfiguration, GcRun, Moves, MayTake, execute, point_of, first_configuration}

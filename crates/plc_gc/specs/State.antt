@@ -21,8 +21,8 @@ use Rattle.plc_gc.specs.declared.slot.Map.TheVariants.{Pointer as pointer_field,
 use Rattle.plc_gc.specs.declared.slot.Map.TheVariants.{Number as data_field, Auxiliary as auxiliary_field}
 use Rattle.plc_gc.specs.declared.slot.Map.TheVariants.{Retirement as retirement}
 use Rattle.plc_flow.specs.declared.flow.Flow.{Flow}
-use Rattle.plc_threads.specs.declared.words.Place.{Place}
-use Rattle.plc_threads.specs.declared.words.Place.TheVariants as places
+use Rattle.plc_moves.specs.declared.words.Place.{Place}
+use Rattle.plc_moves.specs.declared.words.Place.TheVariants as places
 
 -- Every value is a number, and every default is 0: null, unmarked, the data 0, the first value of an auxiliary
 -- field, no thread (thread t is t + 1), not retired. So a node that isn't made reads as a fresh one. A pointer place

@@ -6,8 +6,8 @@ use Rattle.plc_lang.specs.Locals.{pointers_of, parameters_of, other_data_of}
 use Rattle.plc_flow.specs.declared.flow.Flow.{Flow}
 use Rattle.plc_flow.specs.WellFormed.{FlowFits}
 use Rattle.plc_flow.specs.WellSorted.{FlowIsWellSorted}
-use Rattle.plc_threads.specs.declared.words.Move.{Move}
-use Rattle.plc_threads.specs.Fit.{ThreadsFit}
+use Rattle.plc_moves.specs.declared.words.Move.{Move}
+use Rattle.plc_moves.specs.Fit.{ThreadsFit}
 use Rattle.plc_gc.specs.State.{Locals}
 use Rattle.plc_gc.specs.Run.{GcConfiguration, GcRun}
 

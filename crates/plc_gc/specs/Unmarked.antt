@@ -5,7 +5,7 @@ use Rattle.plc_lang.specs.declared.syntax.Primitive.{Primitive}
 use Rattle.plc_lang.specs.Marks.{speaks_of_marks}
 use Rattle.plc_flow.specs.declared.flow.Flow.{Flow}
 use Rattle.plc_flow.specs.Marks.{flow_uses_marks}
-use Rattle.plc_threads.specs.declared.words.Move.{Move}
+use Rattle.plc_moves.specs.declared.words.Move.{Move}
 use Rattle.plc_gc.specs.declared.slot.Slot.TheVariants.{SharedMark as shared_mark, LocalMark as local_mark}
 use Rattle.plc_gc.specs.declared.slot.Map.TheVariants.{Mark as mark_field}
 use Rattle.plc_gc.specs.State.{GcState, value, entry}

@@ -18,9 +18,7 @@ use crate::locals::Locals;
 use crate::state::State;
 use plc_base::{NoMemory, OpId};
 use plc_flow::{Flow, Point, Step};
-use plc_threads::{
-    Move, Place, StartFault, arrival, at_exit, begun, none_held, set_point, step_at,
-};
+use plc_moves::{Move, Place, StartFault, arrival, at_exit, begun, none_held, set_point, step_at};
 use std::alloc::Global;
 use std::marker::Model;
 

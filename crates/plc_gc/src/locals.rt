@@ -13,7 +13,7 @@ use crate::pointers::{find_node, pointer_at};
 use crate::slot::Pointer;
 use plc_base::NoMemory;
 use plc_lang::{Local, Op, count_other_data, count_pointers, data_number, pointer_number};
-use plc_threads::{TryCopy, entry_or, held};
+use plc_moves::{TryCopy, entry_or, held};
 use std::alloc::Global;
 use std::marker::Model;
 

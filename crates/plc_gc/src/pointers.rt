@@ -3,7 +3,7 @@ ghost use Rattle.std.specs.Prelude.{◌≡◌, ◌<◌, get_or, length, nat_lt, 
 ghost use Rattle.plc_gc.specs.State.{null_pointer, node_put, mark_put};
 
 use crate::slot::Pointer;
-use plc_threads::entry_or;
+use plc_moves::entry_or;
 
 /// The pointer at a place of a table, null past its end.
 pub fn pointer_at(pointers: &[Pointer], i: usize) -> Pointer

@@ -7,7 +7,7 @@ ghost use Rattle.plc_gc.specs.Fit.{EntryIn};
 use crate::pointers::{pointer_at, put_mark, put_node};
 use crate::slot::{Map, Pointer};
 use plc_base::NoMemory;
-use plc_threads::entry_or;
+use plc_moves::entry_or;
 use std::alloc::Global;
 use std::marker::Model;
 

@@ -1,7 +1,7 @@
 // The values of a garbage-collected state. A node's number is the place of its row, and no row is taken
 // back, so that a look-up is an index. What it is seen as is the state of the definitions; reads are total.
 ghost use Rattle.std.specs.Prelude.{◌≡◌, ◌<◌, get_or, slice_get, length, IfOk, OnOk, OnErr};
-ghost use Rattle.plc_threads.specs.declared.words.Place.TheVariants as places;
+ghost use Rattle.plc_moves.specs.declared.words.Place.TheVariants as places;
 ghost use Rattle.plc_gc.specs.State.{GcState, first_state, locals_of, with_locals, value, entry, count, put};
 ghost use Rattle.plc_gc.specs.State.{update, made};
 ghost use Rattle.plc_gc.specs.State.{is_retired, is_made, is_pointer_field, node_of, null_pointer};
@@ -16,7 +16,7 @@ use crate::slot::{Map, Pointer, Slot};
 use plc_base::{FieldId, NoMemory};
 use plc_flow::Flow;
 use plc_lang::Field;
-use plc_threads::{Place, copy_held, held, none_held};
+use plc_moves::{Place, copy_held, held, none_held};
 use std::alloc::Global;
 use std::marker::Model;
 

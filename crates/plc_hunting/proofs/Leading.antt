@@ -4,8 +4,8 @@ use Rattle.std.proofs.lemmas.List.{at_drop_more, drop_all, length-drop}
 use Rattle.plc_auto.specs.declared.observer.Observer.{Observer}
 use Rattle.plc_flow.specs.declared.flow.Flow.{Flow}
 use Rattle.plc_flow.specs.WellFormed.{FlowFits}
-use Rattle.plc_threads.specs.declared.words.Move.{Move}
-use Rattle.plc_threads.specs.declared.words.Move.TheVariants.{Free}
+use Rattle.plc_moves.specs.declared.words.Move.{Move}
+use Rattle.plc_moves.specs.declared.words.Move.TheVariants.{Free}
 use Rattle.plc_mem.specs.declared.cell.RaceKind.{RaceKind}
 use Rattle.plc_run.specs.Run.{Configuration, Moves, Races, more}
 use Rattle.plc_run.specs.Position.{Position, threads_of, IsOfRun, HasNone, IsForbidden}

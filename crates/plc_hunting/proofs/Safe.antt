@@ -5,7 +5,7 @@ use Rattle.plc_auto.specs.declared.observer.Observer.{Observer}
 use Rattle.plc_auto.specs.declared.scheme.Scheme.{Scheme}
 use Rattle.plc_flow.specs.declared.flow.Flow.{Flow}
 use Rattle.plc_flow.specs.Lowering.{flow_of}
-use Rattle.plc_threads.specs.declared.words.Move.{Move}
+use Rattle.plc_moves.specs.declared.words.Move.{Move}
 use Rattle.plc_mem.specs.declared.cell.RaceKind.{RaceKind}
 use Rattle.plc_run.specs.Run.{Configuration, Run, NeverRaces, begin, more, first_configuration}
 use Rattle.plc_reclaim.specs.Meanings.{Meanings}

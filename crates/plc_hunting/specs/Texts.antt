@@ -3,8 +3,8 @@
 use Rattle.std.specs.Prelude.{ℕ, Bool, List, [], ◌∷◌, ◌++◌, codes, decimal, if◌then◌else◌, Option, Some, None}
 use Rattle.plc_lang.specs.Names.{operation_name}
 use Rattle.plc_flow.specs.declared.flow.Flow.{Flow}
-use Rattle.plc_threads.specs.declared.words.Move.{Move}
-use Rattle.plc_threads.specs.declared.words.Move.TheVariants.{Start, Step, Return, Free}
+use Rattle.plc_moves.specs.declared.words.Move.{Move}
+use Rattle.plc_moves.specs.declared.words.Move.TheVariants.{Start, Step, Return, Free}
 
 -- numbers, a space before each
 abbrev pub numbers_text : List ℕ → List ℕ

@@ -1,8 +1,8 @@
 // What is said of a race beside the schedule, line by line.
+use plc_answers::{push, push_bytes, push_numbered, variable_in};
 use plc_explore::{Account, Lines};
 use plc_lang::File;
 use plc_mem::RaceKind;
-use plc_texts::{push, push_bytes, push_numbered, variable_in};
 use std::alloc::AllocError;
 
 /// What a race does with its pointer.

@@ -13,12 +13,12 @@ use crate::account::push_account;
 use crate::quarry::{Quarry, hunt_judged};
 use crate::racing::{run_races, schedule_races};
 use crate::writing::run_text;
+use plc_answers::{push, push_number, push_numbered};
 use plc_base::NoMemory;
 use plc_check::{Judged, LoadFault, load};
 use plc_cli::refusal;
 use plc_explore::{Frees, Trail};
 use plc_reclaim::Reclaimer;
-use plc_texts::{push, push_number, push_numbered};
 use std::alloc::{AllocError, Global};
 
 /// What was asked is there.

@@ -10,11 +10,11 @@ use plc_base::NoMemory;
 use plc_check::Judged;
 use plc_cli::{Recorded, end_of};
 use plc_flow::Flow;
+use plc_moves::{Move, StartFault};
 use plc_reclaim::Reclaimer;
 use plc_replay::{End, schedules_come_to_one_end};
 use plc_run::{Config, Moved};
 use plc_sched::{SchedFault, Schedule, read_schedule};
-use plc_threads::{Move, StartFault};
 use std::alloc::Global;
 
 /// Whether an end is a race.

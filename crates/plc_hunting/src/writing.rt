@@ -3,10 +3,10 @@ ghost use Rattle.std.specs.Prelude.{◌≡◌, ◌++◌, IfOk, OnOk};
 ghost use Rattle.plc_hunting.specs.Texts.{numbers_text, address_text, free_text, move_text};
 ghost use Rattle.plc_hunting.specs.Texts.{moves_text, run_text};
 
+use plc_answers::{push, push_bytes, push_numbered};
 use plc_flow::Flow;
 use plc_lang::operation_name;
-use plc_texts::{push, push_bytes, push_numbered};
-use plc_threads::Move;
+use plc_moves::Move;
 use std::alloc::{AllocError, Global};
 
 /// Adds numbers, a space before each.

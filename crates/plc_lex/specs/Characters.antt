@@ -3,8 +3,6 @@ use Rattle.std.specs.Prelude.{◌==◌, ◌&&◌, ◌||◌, ℕ, Bool, not, List
 use Rattle.std.specs.Prelude.{option_map, find}
 use Rattle.std.specs.List.{starts_with}
 use Rattle.std.specs.Str.{bytes_eq}
-use Rattle.plc_lex.specs.contracts.token.Keyword as keyword
-use Rattle.plc_lex.specs.contracts.token.Symbol as symbol
 use Rattle.plc_lex.specs.declared.token.Keyword.{Keyword}
 use Rattle.plc_lex.specs.declared.token.Keyword.TheVariants as words
 use Rattle.plc_lex.specs.declared.token.Symbol.{Symbol}

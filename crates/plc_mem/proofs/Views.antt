@@ -9,7 +9,7 @@ use Rattle.plc_mem.specs.State.{State, Place, at_shared, at_local, at_field, Nod
 use Rattle.plc_base.specs.Tables.{put_at}
 use Rattle.plc_mem.specs.Laws.{is_there, SameAddresses, Wrote, WroteLocal, WroteField, WasMade, WasRetired, WasFreed, HasLocals, MemoryLaws}
 use Rattle.plc_base.proofs.Tables.{get-put_same, get-put_other, get-map, get-replicate, any-without, any-map}
-use Rattle.plc_threads.proofs.Holding.{held-put_same, held-put_other}
+use Rattle.plc_moves.proofs.Holding.{held-put_same, held-put_other}
 use Rattle.plc_mem.proofs.Nodes.{has_node, address-node_of, node-put_same, node-put_other, has-put, put-absent, node-absent, node-push_same, node-push_other, node-gone, node-stays}
 
 -- ---- locals

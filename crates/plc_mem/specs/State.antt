@@ -13,8 +13,8 @@ use Rattle.plc_lang.specs.Fields.{is_pointer_field}
 use Rattle.plc_lang.specs.Locals.{starting_pointers, starting_values}
 use Rattle.plc_flow.specs.declared.flow.Flow.{Flow}
 use Rattle.plc_base.specs.Booleans.{same_bool}
-use Rattle.plc_threads.specs.declared.words.Place.{Place as NamedPlace}
-use Rattle.plc_threads.specs.declared.words.Place.TheVariants as named
+use Rattle.plc_moves.specs.declared.words.Place.{Place as NamedPlace}
+use Rattle.plc_moves.specs.declared.words.Place.TheVariants as named
 use Rattle.plc_mem.specs.declared.cell.Cell.{Cell}
 
 -- the node at a used address: a cell and a number for each field, of which a pointer field has the cell and a data

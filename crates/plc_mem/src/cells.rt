@@ -3,7 +3,7 @@ ghost use Rattle.std.specs.Prelude.{◌≡◌, get_or, map};
 ghost use Rattle.plc_mem.specs.State.{null_cell, cut};
 
 use crate::cell::Cell;
-use plc_threads::entry_or;
+use plc_moves::entry_or;
 
 /// The cell at a place of a table.
 pub fn cell_or_null(cells: &[Cell], i: usize) -> Cell

@@ -11,7 +11,7 @@ use crate::cell::Cell;
 use crate::cells::{cell_or_null, cut_cells};
 use plc_base::NoMemory;
 use plc_lang::{Num, Op, count_other_data, count_pointers};
-use plc_threads::{TryCopy, entry_or, find_entry, held};
+use plc_moves::{TryCopy, entry_or, find_entry, held};
 use std::alloc::Global;
 use std::marker::Model;
 

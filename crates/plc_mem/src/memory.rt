@@ -20,7 +20,7 @@ use crate::node::{Entry, Nodes};
 use plc_base::{FieldId, NoMemory};
 use plc_flow::Flow;
 use plc_lang::{Field, Var};
-use plc_threads::{Place, copy_held, entry_or, find_entry, held, none_held};
+use plc_moves::{Place, copy_held, entry_or, find_entry, held, none_held};
 use std::alloc::Global;
 use std::marker::Model;
 

@@ -11,7 +11,7 @@ use crate::cell::Cell;
 use crate::cells::{cell_or_null, cut_cells};
 use indexmap::IndexSet;
 use plc_base::NoMemory;
-use plc_threads::entry_or;
+use plc_moves::entry_or;
 use std::alloc::Global;
 use std::marker::Model;
 

@@ -15,11 +15,11 @@ use Rattle.plc_logic.specs.declared.clause.Outline.{Outline}
 use Rattle.plc_logic.specs.declared.clause.Site.{Site}
 use Rattle.plc_logic.specs.declared.clause.Site.TheVariants.{Over, At}
 use Rattle.plc_logic.specs.Fit.{OutlineFits, ItemFits, SiteFits, InvariantFits}
-use Rattle.plc_setting.specs.declared.obligations.Obligation.{Obligation}
-use Rattle.plc_setting.specs.declared.obligations.Obligation.TheVariants.{Start, Enter, Own, Other, Claim}
-use Rattle.plc_setting.specs.Parts.{conclusion, entry_clauses, clauses_after}
-use Rattle.plc_setting.specs.Setting.{bound_of}
-use Rattle.plc_setting.specs.Points.{clauses_at, stands_at}
+use Rattle.plc_vocabulary.specs.declared.obligations.Obligation.{Obligation}
+use Rattle.plc_vocabulary.specs.declared.obligations.Obligation.TheVariants.{Start, Enter, Own, Other, Claim}
+use Rattle.plc_vocabulary.specs.Parts.{conclusion, entry_clauses, clauses_after}
+use Rattle.plc_vocabulary.specs.Setting.{bound_of}
+use Rattle.plc_vocabulary.specs.Points.{clauses_at, stands_at}
 
 -- ---- clauses
 

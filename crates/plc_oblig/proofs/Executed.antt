@@ -14,13 +14,13 @@ use Rattle.plc_lang.specs.declared.syntax.Primitive.TheVariants.{Call, Ghost}
 use Rattle.plc_ground.specs.declared.terms.Symbol.{Symbol}
 use Rattle.plc_ground.specs.declared.terms.Symbol.TheVariants as symbols
 use Rattle.plc_symbolic.specs.declared.symbolic.NodeTerm.{NodeTerm}
-use Rattle.plc_setting.specs.declared.acts.Act.{Act}
-use Rattle.plc_setting.specs.declared.acts.Act.TheVariants.{Assign, Make, Fetch, FetchMarked, Update, Test, Differ, Skip}
-use Rattle.plc_setting.specs.declared.setting.Variables.{Variables}
-use Rattle.plc_setting.specs.Acts.{act_of, marked_acts, acts_of_primitive, acts_of, call_act, data_test}
-use Rattle.plc_setting.specs.Setting.{pointer_loads_from}
-use Rattle.plc_items.specs.declared.execution.Execution.{Execution}
-use Rattle.plc_items.specs.Execution.{act_clauses, executed_clauses, after, update_at, if_checked, not_null, version, held}
+use Rattle.plc_vocabulary.specs.declared.acts.Act.{Act}
+use Rattle.plc_vocabulary.specs.declared.acts.Act.TheVariants.{Assign, Make, Fetch, FetchMarked, Update, Test, Differ, Skip}
+use Rattle.plc_vocabulary.specs.declared.setting.Variables.{Variables}
+use Rattle.plc_vocabulary.specs.Acts.{act_of, marked_acts, acts_of_primitive, acts_of, call_act, data_test}
+use Rattle.plc_vocabulary.specs.Setting.{pointer_loads_from}
+use Rattle.plc_encoding.specs.declared.execution.Execution.{Execution}
+use Rattle.plc_encoding.specs.Execution.{act_clauses, executed_clauses, after, update_at, if_checked, not_null, version, held}
 use Rattle.plc_oblig.specs.Size.{is_pointer_load, prim_size, call_size, store_size, test_size}
 use Rattle.plc_oblig.proofs.Lengths.{tally, tallied, each_length, both, one_more}
 

@@ -16,11 +16,11 @@ use Rattle.plc_flow.specs.declared.flow.Gate.{Gate}
 use Rattle.plc_flow.specs.declared.flow.Step.{Step}
 use Rattle.plc_flow.specs.declared.flow.Flow.{Flow}
 use Rattle.plc_logic.specs.declared.clause.Outline.{Outline}
-use Rattle.plc_setting.specs.declared.obligations.Obligation.{Obligation}
-use Rattle.plc_setting.specs.declared.obligations.Obligation.TheVariants.{Enter, Own, Other, Claim}
-use Rattle.plc_setting.specs.Parts.{prims_of, step_prims}
-use Rattle.plc_setting.specs.Points.{count_at}
-use Rattle.plc_setting.specs.Setting.{below}
+use Rattle.plc_vocabulary.specs.declared.obligations.Obligation.{Obligation}
+use Rattle.plc_vocabulary.specs.declared.obligations.Obligation.TheVariants.{Enter, Own, Other, Claim}
+use Rattle.plc_vocabulary.specs.Parts.{prims_of, step_prims}
+use Rattle.plc_vocabulary.specs.Points.{count_at}
+use Rattle.plc_vocabulary.specs.Setting.{below}
 use Rattle.plc_base.proofs.Lists.{drop_there, slice_left}
 use Rattle.plc_oblig.specs.declared.runs.Group.{Group}
 use Rattle.plc_oblig.specs.declared.runs.Group.TheVariants.{Starts, Entries, OwnSteps, AtPoints, Claims}

@@ -15,15 +15,15 @@ use Rattle.plc_ground.specs.declared.terms.Symbol.{Symbol}
 use Rattle.plc_symbolic.specs.declared.symbolic.NodeTerm.{NodeTerm}
 use Rattle.plc_base.specs.declared.ids.OpId.{OpId}
 use Rattle.plc_flow.specs.declared.flow.Flow.{Flow}
-use Rattle.plc_setting.specs.declared.setting.Setting.{Setting}
-use Rattle.plc_setting.specs.declared.obligations.Obligation.{Obligation}
-use Rattle.plc_setting.specs.declared.obligations.Obligation.TheVariants.{Start, Enter}
-use Rattle.plc_setting.specs.Parts.{acting_locals}
-use Rattle.plc_setting.specs.Setting.{only_if, variables_of, targets_of, pointer_fields_from}
+use Rattle.plc_vocabulary.specs.declared.setting.Setting.{Setting}
+use Rattle.plc_vocabulary.specs.declared.obligations.Obligation.{Obligation}
+use Rattle.plc_vocabulary.specs.declared.obligations.Obligation.TheVariants.{Start, Enter}
+use Rattle.plc_vocabulary.specs.Parts.{acting_locals}
+use Rattle.plc_vocabulary.specs.Setting.{only_if, variables_of, targets_of, pointer_fields_from}
 use Rattle.plc_symbolic.specs.Terms.{Clauses, null}
-use Rattle.plc_items.specs.Items.{values_from, field_values, one_of_values, field_marks, mark_values}
-use Rattle.plc_items.specs.Items.{start_clauses, enter_clauses, beginning, is_other, no_field_leads}
-use Rattle.plc_items.specs.Items.{field_defaults_from, ghost_defaults_from, unretired, freshness}
+use Rattle.plc_encoding.specs.Items.{values_from, field_values, one_of_values, field_marks, mark_values}
+use Rattle.plc_encoding.specs.Items.{start_clauses, enter_clauses, beginning, is_other, no_field_leads}
+use Rattle.plc_encoding.specs.Items.{field_defaults_from, ghost_defaults_from, unretired, freshness}
 use Rattle.plc_lang.specs.Fields.{is_pointer_field}
 use Rattle.plc_oblig.specs.Size.{has_values, if_marked}
 

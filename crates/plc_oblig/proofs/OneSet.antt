@@ -15,17 +15,17 @@ use Rattle.plc_ground.specs.declared.terms.Symbol.TheVariants.{Theirs}
 use Rattle.plc_symbolic.specs.declared.symbolic.SymbolicTerm.{SymbolicTerm}
 use Rattle.plc_symbolic.specs.declared.symbolic.SymbolicTerm.TheVariants.{Constant, Application}
 use Rattle.plc_symbolic.specs.Numbering.{Drafted, blank, listed_all, written_all, numbered}
-use Rattle.plc_setting.specs.declared.acts.Act.{Act}
-use Rattle.plc_setting.specs.declared.setting.Setting.{Setting}
-use Rattle.plc_setting.specs.declared.obligations.Obligation.{Obligation}
-use Rattle.plc_setting.specs.declared.obligations.Obligation.TheVariants.{Start, Enter, Own, Other, Claim}
-use Rattle.plc_setting.specs.Parts.{has_point, point_locals}
-use Rattle.plc_setting.specs.Points.{stands_at, clauses_at}
+use Rattle.plc_vocabulary.specs.declared.acts.Act.{Act}
+use Rattle.plc_vocabulary.specs.declared.setting.Setting.{Setting}
+use Rattle.plc_vocabulary.specs.declared.obligations.Obligation.{Obligation}
+use Rattle.plc_vocabulary.specs.declared.obligations.Obligation.TheVariants.{Start, Enter, Own, Other, Claim}
+use Rattle.plc_vocabulary.specs.Parts.{has_point, point_locals}
+use Rattle.plc_vocabulary.specs.Points.{stands_at, clauses_at}
 use Rattle.plc_base.specs.Booleans.{same_bool}
 use Rattle.plc_base.proofs.Booleans.{same_if}
-use Rattle.plc_setting.specs.Setting.{variables_of, bound_of, without_nodes, with_nodes, setting_of}
-use Rattle.plc_setting.specs.Sorts.{sort_of, local_sort}
-use Rattle.plc_items.specs.Items.{clauses_of}
+use Rattle.plc_vocabulary.specs.Setting.{variables_of, bound_of, without_nodes, with_nodes, setting_of}
+use Rattle.plc_vocabulary.specs.Sorts.{sort_of, local_sort}
+use Rattle.plc_encoding.specs.Items.{clauses_of}
 use Rattle.plc_oblig.specs.GroundSets.{ground_set, drafted, listed_first}
 use Rattle.plc_oblig.specs.Alike.{share_gate, share_item, are_points_alike, are_alike}
 

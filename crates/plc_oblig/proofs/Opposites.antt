@@ -31,17 +31,17 @@ use Rattle.plc_ground.specs.declared.terms.Lit.{Lit}
 use Rattle.plc_ground.specs.declared.terms.GroundSet.{GroundSet}
 use Rattle.plc_ground.specs.Model.{HoldsIn, literals}
 use Rattle.plc_ground.specs.Trees.{HasModel}
-use Rattle.plc_setting.specs.declared.obligations.Obligation.{Obligation}
-use Rattle.plc_setting.specs.declared.obligations.Obligation.TheVariants.{Start, Enter, Own, Other, Claim}
-use Rattle.plc_setting.specs.declared.setting.Setting.{Setting}
-use Rattle.plc_setting.specs.Fit.{Fits}
-use Rattle.plc_setting.specs.Parts.{executed, has_owner, conclusion, acting_locals, acting_premises, claim_made, step_prims}
-use Rattle.plc_setting.specs.Points.{clauses_at, count_at, stands_at}
-use Rattle.plc_setting.specs.Marks.{program_uses_marks}
-use Rattle.plc_setting.specs.Setting.{below, setting_of, bound_of, pointer_loads_from}
-use Rattle.plc_items.specs.declared.execution.Execution.{Execution}
-use Rattle.plc_items.specs.Execution.{start, after_all, executed_clauses}
-use Rattle.plc_items.specs.Items.{values_from, mark_values, beginning, freshness, premises, denied, denied_clause, denied_claim, clauses_of, escapes, instance_at, tuples, instances, bound_nodes, read_literal}
+use Rattle.plc_vocabulary.specs.declared.obligations.Obligation.{Obligation}
+use Rattle.plc_vocabulary.specs.declared.obligations.Obligation.TheVariants.{Start, Enter, Own, Other, Claim}
+use Rattle.plc_vocabulary.specs.declared.setting.Setting.{Setting}
+use Rattle.plc_vocabulary.specs.Fit.{Fits}
+use Rattle.plc_vocabulary.specs.Parts.{executed, has_owner, conclusion, acting_locals, acting_premises, claim_made, step_prims}
+use Rattle.plc_vocabulary.specs.Points.{clauses_at, count_at, stands_at}
+use Rattle.plc_vocabulary.specs.Marks.{program_uses_marks}
+use Rattle.plc_vocabulary.specs.Setting.{below, setting_of, bound_of, pointer_loads_from}
+use Rattle.plc_encoding.specs.declared.execution.Execution.{Execution}
+use Rattle.plc_encoding.specs.Execution.{start, after_all, executed_clauses}
+use Rattle.plc_encoding.specs.Items.{values_from, mark_values, beginning, freshness, premises, denied, denied_clause, denied_claim, clauses_of, escapes, instance_at, tuples, instances, bound_nodes, read_literal}
 use Rattle.plc_symbolic.specs.declared.symbolic.NodeTerm.{NodeTerm}
 use Rattle.plc_symbolic.specs.declared.symbolic.NodeTerm.TheVariants.{At}
 use Rattle.plc_symbolic.specs.declared.symbolic.SymbolicTerm.{SymbolicTerm}

@@ -8,8 +8,8 @@ use Rattle.plc_flow.specs.declared.flow.Step.{Step}
 use Rattle.plc_flow.specs.declared.flow.Flow.{Flow}
 use Rattle.plc_flow.specs.WellFormed.{GatesFrom}
 use Rattle.plc_logic.specs.declared.clause.Outline.{Outline}
-use Rattle.plc_setting.specs.Fit.{Fits}
-use Rattle.plc_setting.specs.Points.{count_at, stands_at}
+use Rattle.plc_vocabulary.specs.Fit.{Fits}
+use Rattle.plc_vocabulary.specs.Points.{count_at, stands_at}
 use Rattle.plc_oblig.specs.Runs.{counts_of}
 
 -- what is read past the last gate

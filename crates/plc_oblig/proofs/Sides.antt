@@ -35,24 +35,24 @@ use Rattle.plc_symbolic.specs.declared.symbolic.SymbolicTerm.TheVariants.{Consta
 use Rattle.plc_symbolic.specs.declared.symbolic.SymbolicLit.{SymbolicLit}
 use Rattle.plc_ground.specs.Symbols.{same_symbol}
 use Rattle.plc_symbolic.specs.Terms.{Clauses, term_of, is, is_not, null}
-use Rattle.plc_setting.specs.declared.acts.Act.{Act}
-use Rattle.plc_setting.specs.declared.acts.Act.TheVariants.{Assign, Make, Fetch, FetchMarked, Update, Test, Differ, Skip}
-use Rattle.plc_setting.specs.declared.obligations.Obligation.{Obligation}
-use Rattle.plc_setting.specs.declared.obligations.Obligation.TheVariants.{Start, Enter, Own, Other, Claim}
-use Rattle.plc_setting.specs.declared.setting.Setting.{Setting}
-use Rattle.plc_setting.specs.Acts.{pointer_symbol, mark_of}
-use Rattle.plc_setting.specs.Parts.{acting_locals}
-use Rattle.plc_setting.specs.Setting.{below, only_if, local_symbol}
-use Rattle.plc_setting.specs.Sorts.{field_sort, auxiliary_sort, local_sort, load_sort, loads_of, value_sort, map_sort, symbol_sort, sort_of}
-use Rattle.plc_setting.specs.WellSorted.{ActFits, NodesFit}
-use Rattle.plc_setting.proofs.ActSorts.{kind_at_place}
-use Rattle.plc_items.specs.declared.execution.Execution.{Execution}
-use Rattle.plc_items.specs.Execution.{start, current, version, held, after, after_all, not_null, update_at, if_checked, test_lit, act_clauses, executed_clauses}
-use Rattle.plc_items.specs.Items.{one_of_values, field_values, values_from, set_or_not, field_marks, mark_values}
-use Rattle.plc_items.specs.Items.{equals, unmarked, only_new, start_clauses, enter_clauses, beginning, is_other}
-use Rattle.plc_items.specs.Items.{field_default, field_defaults_from, ghost_default, ghost_defaults_from, no_field_leads}
-use Rattle.plc_items.specs.Items.{unretired, default_is, unmarked_field, freshness, me, read_term, read_mark, read_literal}
-use Rattle.plc_items.specs.Items.{escapes, instance_at, tuples, instances, bound_nodes, denied_clause, denied_claim}
+use Rattle.plc_vocabulary.specs.declared.acts.Act.{Act}
+use Rattle.plc_vocabulary.specs.declared.acts.Act.TheVariants.{Assign, Make, Fetch, FetchMarked, Update, Test, Differ, Skip}
+use Rattle.plc_vocabulary.specs.declared.obligations.Obligation.{Obligation}
+use Rattle.plc_vocabulary.specs.declared.obligations.Obligation.TheVariants.{Start, Enter, Own, Other, Claim}
+use Rattle.plc_vocabulary.specs.declared.setting.Setting.{Setting}
+use Rattle.plc_vocabulary.specs.Acts.{pointer_symbol, mark_of}
+use Rattle.plc_vocabulary.specs.Parts.{acting_locals}
+use Rattle.plc_vocabulary.specs.Setting.{below, only_if, local_symbol}
+use Rattle.plc_vocabulary.specs.Sorts.{field_sort, auxiliary_sort, local_sort, load_sort, loads_of, value_sort, map_sort, symbol_sort, sort_of}
+use Rattle.plc_vocabulary.specs.WellSorted.{ActFits, NodesFit}
+use Rattle.plc_vocabulary.proofs.ActSorts.{kind_at_place}
+use Rattle.plc_encoding.specs.declared.execution.Execution.{Execution}
+use Rattle.plc_encoding.specs.Execution.{start, current, version, held, after, after_all, not_null, update_at, if_checked, test_lit, act_clauses, executed_clauses}
+use Rattle.plc_encoding.specs.Items.{one_of_values, field_values, values_from, set_or_not, field_marks, mark_values}
+use Rattle.plc_encoding.specs.Items.{equals, unmarked, only_new, start_clauses, enter_clauses, beginning, is_other}
+use Rattle.plc_encoding.specs.Items.{field_default, field_defaults_from, ghost_default, ghost_defaults_from, no_field_leads}
+use Rattle.plc_encoding.specs.Items.{unretired, default_is, unmarked_field, freshness, me, read_term, read_mark, read_literal}
+use Rattle.plc_encoding.specs.Items.{escapes, instance_at, tuples, instances, bound_nodes, denied_clause, denied_claim}
 use Rattle.plc_ground.proofs.Symbols.{same_symbol_true}
 use Rattle.plc_oblig.proofs.Lists.{each_flat, each_map, each_all, each_from, each_place, each_of_all}
 use Rattle.plc_oblig.proofs.ValueSorts.{NumberedFrom, numbered_next, value_is_of}

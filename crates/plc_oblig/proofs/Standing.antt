@@ -17,9 +17,9 @@ use Rattle.plc_logic.specs.declared.clause.Site.TheVariants.{Over, At}
 use Rattle.plc_logic.specs.declared.clause.Item.{Item}
 use Rattle.plc_logic.specs.declared.clause.Outline.{Outline}
 use Rattle.plc_logic.specs.Fit.{ClauseFits, SiteFits, ItemFits}
-use Rattle.plc_setting.specs.Fit.{Fits}
-use Rattle.plc_setting.specs.Parts.{has_point, locals_or_none, point_locals}
-use Rattle.plc_setting.specs.Points.{is_over, is_point, names_point, site_is_at, stands_at, clauses_at}
+use Rattle.plc_vocabulary.specs.Fit.{Fits}
+use Rattle.plc_vocabulary.specs.Parts.{has_point, locals_or_none, point_locals}
+use Rattle.plc_vocabulary.specs.Points.{is_over, is_point, names_point, site_is_at, stands_at, clauses_at}
 use Rattle.plc_flow.proofs.Each.{Each, each_so}
 use Rattle.plc_oblig.proofs.Lists.{each_map, each_of_all}
 use Rattle.plc_oblig.proofs.Places.{in_at, first_found, there}

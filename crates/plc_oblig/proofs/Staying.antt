@@ -36,15 +36,15 @@ use Rattle.plc_ground.specs.declared.terms.Map.TheVariants as maps
 use Rattle.plc_base.specs.declared.ids.FieldId.{FieldId}
 use Rattle.plc_flow.proofs.Each.{Each, each_both}
 use Rattle.plc_ground.proofs.Symbols.{same_symbol_true, same_map_true}
-use Rattle.plc_setting.specs.declared.acts.Act.{Act}
-use Rattle.plc_setting.specs.declared.acts.Act.TheVariants.{Assign, Make, Fetch, FetchMarked, Update, Test, Differ, Skip}
-use Rattle.plc_setting.specs.declared.setting.Variables.{Variables}
-use Rattle.plc_setting.specs.Acts.{symbol_at, pointer_symbol, mark_of, data_test, call_act}
-use Rattle.plc_setting.specs.Acts.{act_of, marked_acts, acts_of_primitive, acts_of}
-use Rattle.plc_setting.specs.Setting.{local_symbol, variables_of}
-use Rattle.plc_items.specs.declared.execution.Execution.{Execution}
-use Rattle.plc_items.specs.Execution.{start, current, version, map_now, after, after_all}
-use Rattle.plc_items.specs.Items.{base_node, read_term, read_mark, read_literal}
+use Rattle.plc_vocabulary.specs.declared.acts.Act.{Act}
+use Rattle.plc_vocabulary.specs.declared.acts.Act.TheVariants.{Assign, Make, Fetch, FetchMarked, Update, Test, Differ, Skip}
+use Rattle.plc_vocabulary.specs.declared.setting.Variables.{Variables}
+use Rattle.plc_vocabulary.specs.Acts.{symbol_at, pointer_symbol, mark_of, data_test, call_act}
+use Rattle.plc_vocabulary.specs.Acts.{act_of, marked_acts, acts_of_primitive, acts_of}
+use Rattle.plc_vocabulary.specs.Setting.{local_symbol, variables_of}
+use Rattle.plc_encoding.specs.declared.execution.Execution.{Execution}
+use Rattle.plc_encoding.specs.Execution.{start, current, version, map_now, after, after_all}
+use Rattle.plc_encoding.specs.Items.{base_node, read_term, read_mark, read_literal}
 use Rattle.plc_symbolic.specs.declared.symbolic.NodeTerm.{NodeTerm}
 use Rattle.plc_symbolic.specs.declared.symbolic.NodeTerm.TheVariants.{At}
 use Rattle.plc_symbolic.specs.declared.symbolic.SymbolicTerm.TheVariants.{Application, Constant}

@@ -8,7 +8,7 @@ use Rattle.plc_lang.specs.Numbering.{values_in, value_number, value_at}
 use Rattle.plc_lang.proofs.Numbers.{values_are_numbered}
 use Rattle.plc_logic.specs.declared.clause.Sort.TheVariants as sorts
 use Rattle.plc_logic.specs.Fit.{ghost_sort}
-use Rattle.plc_setting.specs.Sorts.{value_sort}
+use Rattle.plc_vocabulary.specs.Sorts.{value_sort}
 
 -- the values of field g are numbered from here on
 abbrev pub NumberedFrom : List Ghost → ℕ → ℕ → Type 0

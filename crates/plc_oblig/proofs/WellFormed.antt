@@ -19,19 +19,19 @@ use Rattle.plc_symbolic.specs.Drafts.{IsDraft, begun, SortsFit}
 use Rattle.plc_symbolic.specs.Numbering.{Drafted, blank, listed_all}
 use Rattle.plc_symbolic.specs.Terms.{Clauses}
 use Rattle.plc_symbolic.proofs.Drafts.{lists_all, writes_all, written_all-clauses, listed_all-clauses, well_formed}
-use Rattle.plc_setting.specs.declared.obligations.Obligation.{Obligation}
-use Rattle.plc_setting.specs.declared.obligations.Obligation.TheVariants.{Start, Enter, Own, Other, Claim}
-use Rattle.plc_setting.specs.declared.setting.Setting.{Setting}
-use Rattle.plc_setting.specs.Fit.{Fits}
-use Rattle.plc_setting.specs.Parts.{locals_of_step, point_locals, clauses_before, clauses_after, entry_clauses, acting_locals, has_owner, owner_locals, acting_premises, owner_premises, conclusion, claim_made}
-use Rattle.plc_setting.specs.Points.{clauses_at}
-use Rattle.plc_setting.specs.Setting.{local_symbol, setting_of}
-use Rattle.plc_setting.specs.Sorts.{local_sort, symbol_sort, sort_of}
-use Rattle.plc_setting.specs.WellSorted.{ActFits, NodesFit}
-use Rattle.plc_setting.proofs.ActSorts.{acts_fit}
-use Rattle.plc_setting.proofs.NodeSorts.{nodes_fit}
-use Rattle.plc_items.specs.Execution.{start, after_all, executed_clauses}
-use Rattle.plc_items.specs.Items.{values_from, mark_values, beginning, freshness, instances, premises, denied_clause, denied_claim, denied, clauses_of}
+use Rattle.plc_vocabulary.specs.declared.obligations.Obligation.{Obligation}
+use Rattle.plc_vocabulary.specs.declared.obligations.Obligation.TheVariants.{Start, Enter, Own, Other, Claim}
+use Rattle.plc_vocabulary.specs.declared.setting.Setting.{Setting}
+use Rattle.plc_vocabulary.specs.Fit.{Fits}
+use Rattle.plc_vocabulary.specs.Parts.{locals_of_step, point_locals, clauses_before, clauses_after, entry_clauses, acting_locals, has_owner, owner_locals, acting_premises, owner_premises, conclusion, claim_made}
+use Rattle.plc_vocabulary.specs.Points.{clauses_at}
+use Rattle.plc_vocabulary.specs.Setting.{local_symbol, setting_of}
+use Rattle.plc_vocabulary.specs.Sorts.{local_sort, symbol_sort, sort_of}
+use Rattle.plc_vocabulary.specs.WellSorted.{ActFits, NodesFit}
+use Rattle.plc_vocabulary.proofs.ActSorts.{acts_fit}
+use Rattle.plc_vocabulary.proofs.NodeSorts.{nodes_fit}
+use Rattle.plc_encoding.specs.Execution.{start, after_all, executed_clauses}
+use Rattle.plc_encoding.specs.Items.{values_from, mark_values, beginning, freshness, instances, premises, denied_clause, denied_claim, denied, clauses_of}
 use Rattle.plc_oblig.specs.GroundSets.{listed_first, drafted, ground_set}
 use Rattle.plc_oblig.proofs.Lists.{each_of_all, all_of_each}
 use Rattle.plc_oblig.proofs.Sides as sides

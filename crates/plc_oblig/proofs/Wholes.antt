@@ -16,19 +16,19 @@ use Rattle.plc_lang.specs.Allocation.{is_new}
 use Rattle.plc_lang.specs.Locals.{is_pointer}
 use Rattle.std.specs.List.{list_any}
 use Rattle.plc_symbolic.specs.declared.symbolic.NodeTerm.{NodeTerm}
-use Rattle.plc_setting.specs.declared.obligations.Obligation.{Obligation}
-use Rattle.plc_setting.specs.declared.obligations.Obligation.TheVariants.{Start, Enter, Own, Other, Claim}
-use Rattle.plc_setting.specs.declared.setting.Setting.{Setting}
-use Rattle.plc_setting.specs.Parts.{conclusion, claim_made, acting_locals, owner_locals, executed, acting_premises, owner_premises, invariants_before}
-use Rattle.plc_setting.specs.Parts.{clauses_of as point_clauses}
+use Rattle.plc_vocabulary.specs.declared.obligations.Obligation.{Obligation}
+use Rattle.plc_vocabulary.specs.declared.obligations.Obligation.TheVariants.{Start, Enter, Own, Other, Claim}
+use Rattle.plc_vocabulary.specs.declared.setting.Setting.{Setting}
+use Rattle.plc_vocabulary.specs.Parts.{conclusion, claim_made, acting_locals, owner_locals, executed, acting_premises, owner_premises, invariants_before}
+use Rattle.plc_vocabulary.specs.Parts.{clauses_of as point_clauses}
 use Rattle.plc_base.specs.declared.ids.PointId.{PointId}
-use Rattle.plc_setting.specs.Marks.{program_uses_marks}
-use Rattle.plc_setting.specs.Acts.{mark_of}
-use Rattle.plc_setting.specs.Setting.{mark_constants}
-use Rattle.plc_setting.specs.Setting.{nodes_of, targets_of, only_if, node_constants, plain_constants, pointer_loads_from, setting_of, bound_of, below}
-use Rattle.plc_items.specs.declared.execution.Execution.{Execution}
-use Rattle.plc_items.specs.Execution.{start, after_all, executed_clauses}
-use Rattle.plc_items.specs.Items.{tuples, instances, denied, denied_clause, denied_claim, values_from, mark_values, beginning, freshness, premises, clauses_of}
+use Rattle.plc_vocabulary.specs.Marks.{program_uses_marks}
+use Rattle.plc_vocabulary.specs.Acts.{mark_of}
+use Rattle.plc_vocabulary.specs.Setting.{mark_constants}
+use Rattle.plc_vocabulary.specs.Setting.{nodes_of, targets_of, only_if, node_constants, plain_constants, pointer_loads_from, setting_of, bound_of, below}
+use Rattle.plc_encoding.specs.declared.execution.Execution.{Execution}
+use Rattle.plc_encoding.specs.Execution.{start, after_all, executed_clauses}
+use Rattle.plc_encoding.specs.Items.{tuples, instances, denied, denied_clause, denied_claim, values_from, mark_values, beginning, freshness, premises, clauses_of}
 use Rattle.plc_symbolic.specs.Terms.{Clauses}
 use Rattle.plc_symbolic.specs.Numbering.{blank, listed_all, written_all}
 use Rattle.plc_symbolic.proofs.Drafts.{written_all-clauses, listed_all-clauses}

@@ -14,11 +14,11 @@ use Rattle.plc_ground.specs.Fit.{IsWellFormed}
 use Rattle.plc_ground.specs.Trees.{Closes, SplitsOnce}
 use Rattle.plc_symbolic.specs.declared.symbolic.SymbolicLit.{SymbolicLit}
 use Rattle.plc_symbolic.specs.Numbering.{number_lit}
-use Rattle.plc_setting.specs.declared.obligations.Obligation.{Obligation}
-use Rattle.plc_setting.specs.Parts.{conclusion}
-use Rattle.plc_setting.specs.Setting.{setting_of}
-use Rattle.plc_items.specs.Execution.{start, after_all}
-use Rattle.plc_items.specs.Items.{premises, instance_at, bound_nodes, denied}
+use Rattle.plc_vocabulary.specs.declared.obligations.Obligation.{Obligation}
+use Rattle.plc_vocabulary.specs.Parts.{conclusion}
+use Rattle.plc_vocabulary.specs.Setting.{setting_of}
+use Rattle.plc_encoding.specs.Execution.{start, after_all}
+use Rattle.plc_encoding.specs.Items.{premises, instance_at, bound_nodes, denied}
 use Rattle.plc_oblig.specs.GroundSets.{drafted, ground_set}
 
 -- ---- sets that end with the opposites of an earlier clause's literals

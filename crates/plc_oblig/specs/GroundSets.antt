@@ -10,12 +10,12 @@ use Rattle.plc_symbolic.specs.declared.symbolic.SymbolicTerm.TheVariants.{Consta
 use Rattle.plc_symbolic.specs.declared.symbolic.NodeTerm.{NodeTerm}
 use Rattle.plc_symbolic.specs.Numbering.{Drafted, blank, listed_all, written_all, numbered}
 use Rattle.plc_symbolic.specs.Terms.{term_of}
-use Rattle.plc_setting.specs.declared.acts.Act.{Act}
-use Rattle.plc_setting.specs.declared.obligations.Obligation.{Obligation}
-use Rattle.plc_setting.specs.declared.setting.Setting.{Setting}
-use Rattle.plc_setting.specs.Setting.{setting_of, constants_of}
-use Rattle.plc_setting.specs.Sorts.{sort_of}
-use Rattle.plc_items.specs.Items.{clauses_of}
+use Rattle.plc_vocabulary.specs.declared.acts.Act.{Act}
+use Rattle.plc_vocabulary.specs.declared.obligations.Obligation.{Obligation}
+use Rattle.plc_vocabulary.specs.declared.setting.Setting.{Setting}
+use Rattle.plc_vocabulary.specs.Setting.{setting_of, constants_of}
+use Rattle.plc_vocabulary.specs.Sorts.{sort_of}
+use Rattle.plc_encoding.specs.Items.{clauses_of}
 
 -- constants as terms
 abbrev pub constant_terms : List Symbol → List SymbolicTerm

@@ -9,10 +9,10 @@ use Rattle.plc_flow.specs.declared.flow.Gate.{Gate}
 use Rattle.plc_flow.specs.declared.flow.Step.{Step}
 use Rattle.plc_flow.specs.declared.flow.Flow.{Flow}
 use Rattle.plc_logic.specs.declared.clause.Outline.{Outline}
-use Rattle.plc_setting.specs.declared.obligations.Obligation.{Obligation}
-use Rattle.plc_setting.specs.declared.obligations.Obligation.TheVariants.{Start, Enter, Own, Other, Claim}
-use Rattle.plc_setting.specs.Points.{count_at}
-use Rattle.plc_setting.specs.Setting.{below}
+use Rattle.plc_vocabulary.specs.declared.obligations.Obligation.{Obligation}
+use Rattle.plc_vocabulary.specs.declared.obligations.Obligation.TheVariants.{Start, Enter, Own, Other, Claim}
+use Rattle.plc_vocabulary.specs.Points.{count_at}
+use Rattle.plc_vocabulary.specs.Setting.{below}
 
 -- numbers as the program writes them: of an operation, of a step, of a point
 abbrev pub op_id : ℕ → OpId

@@ -1,8 +1,8 @@
 -- What contracts say of a program, by the flow and the outline in it.
 use Rattle.std.specs.Prelude.{List}
 use Rattle.plc_ground.specs.declared.terms.GroundSet.{GroundSet}
-use Rattle.plc_setting.specs.declared.obligations.Obligation.{Obligation}
-use Rattle.plc_setting.specs.Fit.{Fits}
+use Rattle.plc_vocabulary.specs.declared.obligations.Obligation.{Obligation}
+use Rattle.plc_vocabulary.specs.Fit.{Fits}
 use Rattle.plc_oblig.specs.declared.annotated.Annotated.{Annotated}
 use Rattle.plc_oblig.specs.Obligations.{obligations}
 use Rattle.plc_oblig.specs.GroundSets.{ground_set}

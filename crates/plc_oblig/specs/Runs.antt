@@ -7,11 +7,11 @@ use Rattle.plc_lang.specs.WellSorted.{is_claim}
 use Rattle.plc_flow.specs.declared.flow.Gate.{Gate}
 use Rattle.plc_flow.specs.declared.flow.Flow.{Flow}
 use Rattle.plc_logic.specs.declared.clause.Outline.{Outline}
-use Rattle.plc_setting.specs.declared.obligations.Obligation.{Obligation}
-use Rattle.plc_setting.specs.declared.obligations.Obligation.TheVariants.{Start, Enter, Own, Other, Claim}
-use Rattle.plc_setting.specs.Parts.{step_prims}
-use Rattle.plc_setting.specs.Points.{count_at}
-use Rattle.plc_setting.specs.Setting.{below}
+use Rattle.plc_vocabulary.specs.declared.obligations.Obligation.{Obligation}
+use Rattle.plc_vocabulary.specs.declared.obligations.Obligation.TheVariants.{Start, Enter, Own, Other, Claim}
+use Rattle.plc_vocabulary.specs.Parts.{step_prims}
+use Rattle.plc_vocabulary.specs.Points.{count_at}
+use Rattle.plc_vocabulary.specs.Setting.{below}
 use Rattle.plc_oblig.specs.declared.runs.Group.{Group}
 use Rattle.plc_oblig.specs.declared.runs.Group.TheVariants.{Starts, Entries, OwnSteps, AtPoints, Claims}
 use Rattle.plc_oblig.specs.declared.runs.Place.{Place}
@@ -50,7 +50,8 @@ count_in flow outline Starts k = length outline.invariants
 count_in flow outline Entries k = count_if (λ (g : Gate). count_at flow outline g.entry.0) (slice_get flow.gates k)
 count_in flow outline OwnSteps k = count_if (own_count flow outline) (slice_get flow.steps k)
 count_in flow outline (AtPoints s) k = count_at flow outline k
-count_in flow outline (Claims s) k = count_if (λ (p : Primitive). one_if (is_claim p)) (slice_get (step_prims flow s.0) k)
+count_in flow outline (Claims s) k =
+    count_if (λ (p : Primitive). one_if (is_claim p)) (slice_get (step_prims flow s.0) k)
 
 -- the obligation of a part with a number
 abbrev pub in_part : Group → ℕ → ℕ → Obligation

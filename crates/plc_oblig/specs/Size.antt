@@ -18,7 +18,7 @@ use Rattle.plc_lang.specs.declared.syntax.Primitive.TheVariants.{MarkTest, Call,
 use Rattle.plc_lang.specs.Locals.{is_pointer}
 use Rattle.plc_flow.specs.WellFormed.{most_step_primitives}
 use Rattle.plc_logic.specs.declared.clause.Clause.{Clause}
-use Rattle.plc_setting.specs.declared.setting.Setting.{Setting}
+use Rattle.plc_vocabulary.specs.declared.setting.Setting.{Setting}
 use Rattle.plc_oblig.specs.declared.size.Sizes.{Sizes}
 
 -- an auxiliary field that has values; the others hold threads

@@ -11,10 +11,10 @@ use Rattle.plc_lang.specs.declared.syntax.Primitive.TheVariants.{Refresh, Refres
 use Rattle.plc_lang.specs.declared.syntax.Primitive.TheVariants.{Ghost, Mark, Unmark, MarkTest}
 use Rattle.plc_flow.specs.declared.flow.Flow.{Flow}
 use Rattle.plc_logic.specs.declared.clause.Outline.{Outline}
-use Rattle.plc_setting.specs.declared.obligations.Obligation.{Obligation}
-use Rattle.plc_setting.specs.declared.obligations.Obligation.TheVariants.{Start, Enter, Own, Other, Claim}
-use Rattle.plc_setting.specs.Fit.{Fits}
-use Rattle.plc_setting.specs.Parts.{step_prims}
+use Rattle.plc_vocabulary.specs.declared.obligations.Obligation.{Obligation}
+use Rattle.plc_vocabulary.specs.declared.obligations.Obligation.TheVariants.{Start, Enter, Own, Other, Claim}
+use Rattle.plc_vocabulary.specs.Fit.{Fits}
+use Rattle.plc_vocabulary.specs.Parts.{step_prims}
 use Rattle.plc_oblig.specs.Obligations.{obligations}
 use Rattle.plc_oblig.specs.Outlines.{IsKept}
 

@@ -18,10 +18,10 @@ use Rattle.plc_logic.specs.declared.clause.Literal.{Literal}
 use Rattle.plc_logic.specs.declared.clause.Literal.TheVariants as literals
 use Rattle.plc_logic.specs.declared.clause.Clause.{Clause}
 use Rattle.plc_logic.specs.declared.clause.Outline.{Outline}
-use Rattle.plc_setting.specs.declared.obligations.Obligation.{Obligation}
-use Rattle.plc_setting.specs.declared.obligations.Obligation.TheVariants.{Start, Enter, Own, Other, Claim}
-use Rattle.plc_setting.specs.Fit.{Fits}
-use Rattle.plc_setting.specs.Parts.{conclusion, step_prims}
+use Rattle.plc_vocabulary.specs.declared.obligations.Obligation.{Obligation}
+use Rattle.plc_vocabulary.specs.declared.obligations.Obligation.TheVariants.{Start, Enter, Own, Other, Claim}
+use Rattle.plc_vocabulary.specs.Fit.{Fits}
+use Rattle.plc_vocabulary.specs.Parts.{conclusion, step_prims}
 use Rattle.plc_oblig.specs.declared.touching.Part.{Part}
 use Rattle.plc_oblig.specs.declared.touching.Part.TheVariants as parts
 use Rattle.plc_oblig.specs.Obligations.{obligations}

@@ -4,15 +4,15 @@
 // obligations, of which some 700 are left for `certify`, and some 170 for `check`, which makes none for still ones.
 ghost use Rattle.std.specs.Prelude.{◌≡◌, ◌⊎◌, ℕ, [], Contains, OnOk, IfSome};
 ghost use Rattle.std.specs.List.{list_all};
-ghost use Rattle.plc_setting.specs.declared.obligations.Obligation.{Obligation as AnObligation};
-ghost use Rattle.plc_setting.specs.Points.{is_labelled};
+ghost use Rattle.plc_vocabulary.specs.declared.obligations.Obligation.{Obligation as AnObligation};
+ghost use Rattle.plc_vocabulary.specs.Points.{is_labelled};
 ghost use Rattle.plc_oblig.specs.Alike.{share_gate, share_item, are_points_alike, are_alike};
 ghost use Rattle.plc_oblig.specs.Alike.{AlikeObligationsHaveOneSet, IsNotedAs};
 
 use plc_base::{NoMemory, PointId, StepId, same_bool};
 use plc_flow::{Flow, Gate};
 use plc_logic::{Item, Outline};
-use plc_setting::{Obligation, has_point, is_labelled, stands_at};
+use plc_vocabulary::{Obligation, has_point, is_labelled, stands_at};
 use std::alloc::Global;
 use std::marker::Model;
 
@@ -106,7 +106,7 @@ pub struct Noted {
 
 impl Model for Noted {
     ghost use Rattle.std.specs.Prelude.{List, ℕ};
-    ghost use Rattle.plc_setting.specs.declared.obligations.Obligation.{Obligation};
+    ghost use Rattle.plc_vocabulary.specs.declared.obligations.Obligation.{Obligation};
 
     ghost Value = { List (Obligation × ℕ) };
 

@@ -2,11 +2,11 @@
 // whether marks are used, so that is asked once and handed on. That the outline fits the flow stays a clause of each
 // call: a ghost field takes only a fact that has one proof at most, which isn't shown of `Fits`, told by cases.
 ghost use Rattle.std.specs.Prelude.{◌≡◌};
-ghost use Rattle.plc_setting.specs.Marks.{program_uses_marks};
+ghost use Rattle.plc_vocabulary.specs.Marks.{program_uses_marks};
 
 use plc_flow::Flow;
 use plc_logic::Outline;
-use plc_setting::program_uses_marks;
+use plc_vocabulary::program_uses_marks;
 
 /// A flow with an outline, of which it is known whether they use marks.
 #[derive(Clone, Copy)]

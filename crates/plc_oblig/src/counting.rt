@@ -1,7 +1,7 @@
 // How many obligations there are, group by group. Each step has as many at the points of another thread as any other,
 // so those are counted once.
 ghost use Rattle.std.specs.Prelude.{◌≡◌, ◌≤◌, ◌*◌, length};
-ghost use Rattle.plc_setting.specs.Fit.{Fits};
+ghost use Rattle.plc_vocabulary.specs.Fit.{Fits};
 ghost use Rattle.plc_oblig.specs.declared.runs.Group.TheVariants.{AtPoints};
 ghost use Rattle.plc_oblig.specs.Obligations.{step_id, obligations};
 ghost use Rattle.plc_oblig.specs.Runs.{runs};

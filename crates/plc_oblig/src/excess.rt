@@ -8,7 +8,7 @@ use crate::annotated::Annotated;
 use crate::runs::{Counted, Place, count_points, next_from};
 use crate::size::clauses_where;
 use plc_base::What1;
-use plc_setting::Obligation;
+use plc_vocabulary::Obligation;
 
 /// Whether the ground set of the obligation has more clauses than it may.
 fn is_large(program: &Annotated<'_>, o: &Obligation) -> bool

@@ -5,19 +5,19 @@ ghost use Rattle.std.specs.Prelude.{◌≡◌, ◌<◌, length, slice_get, Some,
 ghost use Rattle.plc_lang.specs.Fit.{FileFits};
 ghost use Rattle.plc_ground.specs.Fit.{IsWellFormed};
 ghost use Rattle.plc_symbolic.specs.Numbering.{blank, listed_all};
-ghost use Rattle.plc_setting.specs.Fit.{Fits};
+ghost use Rattle.plc_vocabulary.specs.Fit.{Fits};
 ghost use Rattle.plc_oblig.specs.Programs.{ProgramFits, set_of};
 ghost use Rattle.plc_oblig.specs.Drafting.{CanDraft};
 ghost use Rattle.plc_oblig.specs.GroundSets.{constant_terms, node_terms, sorts_of, drafted, ground_set};
 
 use crate::annotated::{Annotated, annotate};
 use plc_base::{Items, NoMemory};
+use plc_encoding::{Subject, push_items};
 use plc_flow::Flow;
 use plc_ground::{GroundSet, Sort, Symbol};
-use plc_items::{Subject, push_items};
 use plc_logic::Outline;
-use plc_setting::{Act, Obligation, Setting, constants_of, setting_of, sort_of};
 use plc_symbolic::{Draft, NodeTerm, SymbolicTerm, term_of};
+use plc_vocabulary::{Act, Obligation, Setting, constants_of, setting_of, sort_of};
 use std::alloc::Global;
 
 /// Lists constants.

@@ -25,7 +25,7 @@ pub use annotated::{Annotated, annotate};
 pub use counting::count;
 pub use excess::has_large_set;
 pub use grounding::{Grounding, ground};
-pub use plc_setting::{Obligation, program_uses_marks};
+pub use plc_vocabulary::{Obligation, program_uses_marks};
 pub use size::clauses;
 pub use stillness::{still, still_obligations_are_kept};
 pub use touching::{Part, untouched, untouched_obligations_are_kept};

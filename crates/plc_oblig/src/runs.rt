@@ -7,9 +7,9 @@ ghost use Rattle.std.specs.Prelude.{◌≡◌, ◌<◌, ◌≤◌, ◌+◌, ◌*
 ghost use Rattle.plc_base.specs.Limits.{most};
 ghost use Rattle.plc_base.specs.declared.limits.What1.TheVariants as limits;
 ghost use Rattle.plc_lang.specs.WellSorted.{is_claim};
-ghost use Rattle.plc_setting.specs.Points.{count_at};
-ghost use Rattle.plc_setting.specs.Fit.{Fits};
-ghost use Rattle.plc_setting.specs.Parts.{step_prims};
+ghost use Rattle.plc_vocabulary.specs.Points.{count_at};
+ghost use Rattle.plc_vocabulary.specs.Fit.{Fits};
+ghost use Rattle.plc_vocabulary.specs.Parts.{step_prims};
 ghost use Rattle.plc_oblig.specs.Runs.{groups, one_if, parts_of, count_in, in_part, counts_of, left_at, IsFoundFrom};
 ghost use Rattle.plc_oblig.specs.Runs.{IsFirst};
 
@@ -17,7 +17,7 @@ use plc_base::{OpId, PointId, StepId};
 use plc_flow::Flow;
 use plc_lang::Prim;
 use plc_logic::Outline;
-use plc_setting::{Obligation, count_at, executed};
+use plc_vocabulary::{Obligation, count_at, executed};
 
 /// A group of obligations, in the order of the list: there is one each of the last two kinds for each step.
 #[derive(Clone, Copy)]

@@ -7,14 +7,14 @@ ghost use Rattle.plc_lang.specs.Locals.{is_other_data};
 ghost use Rattle.plc_lang.specs.Fields.{is_pointer_field};
 ghost use Rattle.plc_lang.specs.Fit.{FileFits};
 ghost use Rattle.plc_flow.specs.WellFormed.{most_step_primitives};
-ghost use Rattle.plc_setting.specs.Fit.{Fits};
-ghost use Rattle.plc_setting.specs.Points.{clauses_at};
-ghost use Rattle.plc_setting.specs.Parts.{acting_locals, owner_locals, executed, conclusion, claim_made, clauses_of};
-ghost use Rattle.plc_setting.specs.Setting.{setting_of, bound_of};
-ghost use Rattle.plc_setting.specs.declared.setting.Setting.{Setting};
+ghost use Rattle.plc_vocabulary.specs.Fit.{Fits};
+ghost use Rattle.plc_vocabulary.specs.Points.{clauses_at};
+ghost use Rattle.plc_vocabulary.specs.Parts.{acting_locals, owner_locals, executed, conclusion, claim_made, clauses_of};
+ghost use Rattle.plc_vocabulary.specs.Setting.{setting_of, bound_of};
+ghost use Rattle.plc_vocabulary.specs.declared.setting.Setting.{Setting};
 ghost use Rattle.plc_symbolic.specs.declared.symbolic.NodeTerm.{NodeTerm};
-ghost use Rattle.plc_items.specs.declared.execution.Execution.{Execution};
-ghost use Rattle.plc_items.specs.Items.{values_from, mark_values, beginning, freshness, denied};
+ghost use Rattle.plc_encoding.specs.declared.execution.Execution.{Execution};
+ghost use Rattle.plc_encoding.specs.Items.{values_from, mark_values, beginning, freshness, denied};
 ghost use Rattle.plc_oblig.specs.Programs.{ProgramFits, set_of};
 ghost use Rattle.plc_oblig.specs.GroundSets.{ground_set};
 ghost use Rattle.plc_oblig.specs.Size.{has_values, is_pointer_load, if_marked, store_size, test_size, call_size};
@@ -27,7 +27,7 @@ use plc_base::PointId;
 use plc_flow::Flow;
 use plc_lang::{Arg, Field, File, Ghost, Local, Prim, Rel, has_new};
 use plc_logic::{Clause, Outline};
-use plc_setting::{
+use plc_vocabulary::{
     Obligation, acting_locals, acting_point, bound_of, claim_made, conclusion, executed,
     invariants_before, is_labelled, owner_locals, owner_point, stands_at,
 };

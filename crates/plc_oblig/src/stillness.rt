@@ -2,13 +2,13 @@
 // need no ground set: what is to hold after the step held before it.
 ghost use Rattle.std.specs.Prelude.{◌≡◌, not};
 ghost use Rattle.std.specs.List.{list_any};
-ghost use Rattle.plc_setting.specs.Parts.{executed};
+ghost use Rattle.plc_vocabulary.specs.Parts.{executed};
 ghost use Rattle.plc_oblig.specs.Still.{is_shared, changes, is_still, StillObligationsAreKept};
 
 use plc_flow::Flow;
 use plc_lang::{Prim, Var};
 use plc_logic::Outline;
-use plc_setting::{Obligation, executed};
+use plc_vocabulary::{Obligation, executed};
 
 /// Whether the variable is a shared pointer.
 fn is_shared(p: Var) -> bool

@@ -4,8 +4,8 @@
 ghost use Rattle.std.specs.Prelude.{◌≡◌, ◌==◌, ◌||◌, not, length, option_copied};
 ghost use Rattle.std.specs.List.{list_any};
 ghost use Rattle.plc_lang.specs.Allocation.{is_new};
-ghost use Rattle.plc_setting.specs.Fit.{Fits};
-ghost use Rattle.plc_setting.specs.Parts.{executed, conclusion};
+ghost use Rattle.plc_vocabulary.specs.Fit.{Fits};
+ghost use Rattle.plc_vocabulary.specs.Parts.{executed, conclusion};
 ghost use Rattle.plc_oblig.specs.Untouched.{shared_part, written, is_pointer, is_field, is_ghost, is_flag, reaches};
 ghost use Rattle.plc_oblig.specs.Untouched.{term_reads, literal_reads, any_reads, passes, touches, is_read_alike};
 ghost use Rattle.plc_oblig.specs.Untouched.{any_read_alike, is_untouched, UntouchedObligationsAreKept};
@@ -14,7 +14,7 @@ use plc_base::FieldId;
 use plc_flow::Flow;
 use plc_lang::{Prim, Var, has_new};
 use plc_logic::{Base, Clause, Literal, Outline, Term};
-use plc_setting::{Obligation, conclusion, executed};
+use plc_vocabulary::{Obligation, conclusion, executed};
 
 /// A part of the state that a step may write and a clause may read: a shared pointer, a field or an auxiliary field of
 /// all nodes, or which nodes are retired. A pointer's mark is part of it, and so are the marks in a field.

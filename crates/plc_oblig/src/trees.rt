@@ -11,7 +11,7 @@ use crate::size::denied_size;
 use crate::stillness::still;
 use plc_base::NoMemory;
 use plc_ground::Tree;
-use plc_setting::Obligation;
+use plc_vocabulary::Obligation;
 use std::alloc::Global;
 
 impl Grounding {

@@ -1,7 +1,7 @@
 // A walk over the obligations of an outline in their order. Going by numbers would count through all the runs before
 // for each of them; a walk keeps its place, and how many clauses there are at each point.
 ghost use Rattle.std.specs.Prelude.{◌≡◌, slice_get, IfOk};
-ghost use Rattle.plc_setting.specs.Fit.{Fits};
+ghost use Rattle.plc_vocabulary.specs.Fit.{Fits};
 ghost use Rattle.plc_oblig.specs.Obligations.{obligations};
 ghost use Rattle.plc_oblig.specs.Walk.{IsNextOf};
 
@@ -9,7 +9,7 @@ use crate::runs::{Counted, Place, count_points, next_from};
 use plc_base::{Items, NoMemory};
 use plc_flow::Flow;
 use plc_logic::Outline;
-use plc_setting::Obligation;
+use plc_vocabulary::Obligation;
 use std::alloc::Global;
 use std::marker::Model;
 
@@ -26,12 +26,12 @@ pub struct Walk<'a> {
 
 impl<'a> Model for Walk<'a> {
     ghost use Rattle.std.specs.Prelude.{List};
-    ghost use Rattle.plc_setting.specs.declared.obligations.Obligation.{Obligation as AnObligation};
+    ghost use Rattle.plc_vocabulary.specs.declared.obligations.Obligation.{Obligation as AnObligation};
 
     ghost Value = { List AnObligation };
 
     ghost use Rattle.std.specs.Prelude.{◌≡◌};
-    ghost use Rattle.plc_setting.specs.Fit.{Fits};
+    ghost use Rattle.plc_vocabulary.specs.Fit.{Fits};
     ghost use Rattle.plc_oblig.specs.Runs.{left_at, counts_of};
 
     ghost view = { λ w. left_at w.flow.now w.outline.now w.at };

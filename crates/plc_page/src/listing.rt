@@ -4,7 +4,7 @@ use crate::shown::{Shown, Written, push_point_link};
 use plc_base::{NoMemory, StepId};
 use plc_flow::{Flow, Step};
 use plc_html::{Html, Tag};
-use plc_words::nth_of;
+use plc_sentences::nth_of;
 use std::alloc::Global;
 
 /// The line and the number of each step, in the order of the lines.

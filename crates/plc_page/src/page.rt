@@ -3,7 +3,7 @@
 ghost use Rattle.std.specs.Prelude.{◌≡◌, ◌≤◌, IfOk, length};
 ghost use Rattle.plc_base.specs.FileSizes.{largest_file};
 ghost use Rattle.plc_flow.specs.Skeleton.{skeleton_of};
-ghost use Rattle.plc_setting.specs.Fit.{Fits};
+ghost use Rattle.plc_vocabulary.specs.Fit.{Fits};
 ghost use Rattle.plc_xfer.specs.Typings.{IsStrongest};
 ghost use Rattle.plc_page.specs.Pages.{ShowsAnswer, ShowsCheck, SaysVerdict, ShowsVerdict, SaysRefusal};
 
@@ -13,13 +13,13 @@ use crate::refused::line_of_refusal;
 use crate::shown::{Shown, Written};
 use crate::unproved::{MOST_SHOWN, push_unproved};
 use crate::untyped::push_failure;
+use plc_answers::line_of;
 use plc_base::{Items, NoMemory};
 use plc_check::{Judged, LoadFault, Loaded, Verdict, check, load_with_tokens, open_obligations};
 use plc_cli::{refusal, verdict_status, verdict_text};
 use plc_html::{Html, Subject, whole_page};
 use plc_infer::{Typing, pretyping};
-use plc_texts::line_of;
-use plc_words::Clauses;
+use plc_sentences::Clauses;
 use std::alloc::Global;
 
 /// A page, with the status of the answer that it shows.

@@ -1,13 +1,14 @@
 // The answer as lines for editors and tools, each `NAME:LINE: SENTENCE`.
 ghost use Rattle.std.specs.Prelude.{◌≡◌, ◌≢◌, ◌≤◌, IfOk, length};
 ghost use Rattle.plc_base.specs.FileSizes.{largest_file};
-ghost use Rattle.plc_setting.specs.Fit.{Fits};
+ghost use Rattle.plc_vocabulary.specs.Fit.{Fits};
 ghost use Rattle.plc_check.specs.declared.judged.LoadFault.TheVariants.{Memory};
 ghost use Rattle.plc_cli.specs.Statuses.{refused};
 ghost use Rattle.plc_page.specs.Pages.{HasCheckStatus, HasVerdictStatus};
 
 use crate::refused::line_of_refusal;
 use crate::unproved::MOST_SHOWN;
+use plc_answers::{line_of, push, push_bytes, push_number, variable_in};
 use plc_base::{NoMemory, OpId, StepId};
 use plc_check::{
     Counterexample, Judged, LoadFault, Loaded, Verdict, check, load_with_tokens, open_obligations,
@@ -15,9 +16,8 @@ use plc_check::{
 use plc_cli::{refusal, verdict_status};
 use plc_flow::Flow;
 use plc_oblig::Obligation;
+use plc_sentences::{Clauses, clause_of, push_obligation, push_untyped};
 use plc_suggest::{Spot, SuggestFault, Suggestion, suggest};
-use plc_texts::{line_of, push, push_bytes, push_number, variable_in};
-use plc_words::{Clauses, clause_of, push_obligation, push_untyped};
 use plc_xfer::TypeFault;
 use std::alloc::{AllocError, Global};
 

@@ -5,7 +5,7 @@ use plc_base::{OpId, PointId, StepId};
 use plc_flow::{Flow, Gate, Step};
 use plc_html::{Html, Tag};
 use plc_lang::operation_name;
-use plc_words::{ClauseId, clauses_at, nth_of, push_point, push_source, push_step};
+use plc_sentences::{ClauseId, clauses_at, nth_of, push_point, push_source, push_step};
 
 /// A step that leaves a point.
 fn push_leaving(html: &mut Html, flow: &Flow, id: StepId, step: &Step) -> Written {

@@ -3,7 +3,7 @@ use plc_base::NoMemory;
 use plc_check::Judged;
 use plc_html::{Html, Tag};
 use plc_infer::Typing;
-use plc_words::Clauses;
+use plc_sentences::Clauses;
 
 /// What writing a part of a page answers: nothing, or that memory runs out.
 pub(crate) type Written = Result<(), NoMemory>;

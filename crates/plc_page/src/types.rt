@@ -3,8 +3,8 @@ use crate::shown::Written;
 use plc_auto::Observer;
 use plc_html::Html;
 use plc_lang::{File, Local, locals_of, name_at, shared_name};
+use plc_sentences::{push_anywhere, push_type};
 use plc_type::{Env, PtrType};
-use plc_words::{push_anywhere, push_type};
 
 /// The row of a pointer.
 fn push_row(html: &mut Html, observer: &Observer, name: &[u8], t: &PtrType) -> Written {

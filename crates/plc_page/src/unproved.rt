@@ -1,16 +1,16 @@
 // The obligations that stay open, clause by clause, each with a state in which what it asks may be wrong.
-ghost use Rattle.plc_setting.specs.Fit.{Fits};
+ghost use Rattle.plc_vocabulary.specs.Fit.{Fits};
 
 use crate::points::push_clause;
 use crate::shown::{Shown, Written, push_sentence};
+use plc_answers::unproved_text;
 use plc_base::{Items, NoMemory};
 use plc_check::{Counterexample, OpenObligations};
 use plc_html::Html;
 use plc_logic::Outline;
 use plc_oblig::Obligation;
 use plc_picture::{Picture, before_and_after, push_svg, push_table};
-use plc_texts::unproved_text;
-use plc_words::{ClauseId, clause_of, push_obligation};
+use plc_sentences::{ClauseId, clause_of, push_obligation};
 use std::alloc::Global;
 
 /// How many open obligations a page shows at most.

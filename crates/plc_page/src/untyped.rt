@@ -1,20 +1,20 @@
 // Why a file has no typing: the primitive whose condition fails, what is known just before it, what would help, and
 // which claims would be enough.
 ghost use Rattle.plc_flow.specs.Skeleton.{skeleton_of};
-ghost use Rattle.plc_setting.specs.Fit.{Fits};
+ghost use Rattle.plc_vocabulary.specs.Fit.{Fits};
 ghost use Rattle.plc_xfer.specs.Rules.{FitsObserver};
 ghost use Rattle.plc_xfer.specs.Typings.{IsStrongest};
 
 use crate::shown::{Shown, Written, push_line_link, push_sentence};
 use crate::types::push_types;
+use plc_answers::{FailedCondition, insufficient_text, line_of, spots_limit_text, suggested_text};
 use plc_base::{NoMemory, StepId};
 use plc_check::Judged;
 use plc_flow::Step;
 use plc_html::Html;
+use plc_sentences::{advice, push_untyped};
 use plc_suggest::{SuggestFault, Suggestion, suggest};
-use plc_texts::{FailedCondition, insufficient_text, line_of, spots_limit_text, suggested_text};
 use plc_type::Env;
-use plc_words::{advice, push_untyped};
 use plc_xfer::{TypeFault, apply};
 use std::alloc::Global;
 

@@ -145,7 +145,7 @@ pub fn statements(context: Context, scope: &mut Scope, block: &BlockForm) -> Mea
 {
     let mut lines = Vec::new(context.alloc);
     for form in block.stmts() {
-        let line = line_at(context.tokens, form.at);
+        let line = line_at(context.tokens, form.at, 0);
         let stmt = statement(context, scope, form.at, &form.value)?;
         lines.push(Line { line, stmt })?;
     }

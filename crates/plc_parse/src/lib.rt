@@ -17,6 +17,7 @@ mod statement;
 mod step;
 mod unit;
 
+pub use lines::line_at;
 pub use marks::units_use_their_marks;
 pub use plc_scope::ParseFault;
 pub use reading::{faults_are_one, parse, units_are_unique, units_fit};

@@ -26,7 +26,8 @@ fn declare_parameter(scope: &mut Scope, name: Name) -> Meaning<()>
 /// Declares parameters in order.
 fn declare_names(scope: &mut Scope, names: &[Name]) -> Meaning<()>
     requires { HasRoomForLocals scope.old }
-    ensures { DeclaresLocals (in_turn declared_parameter scope.old (map name_tree names.now)) scope.old scope.new result }
+    ensures { DeclaresLocals (in_turn declared_parameter scope.old (map name_tree names.now)) scope.old scope.new
+        result }
 {
     for name in names {
         declare_parameter(scope, *name)?;
@@ -37,8 +38,8 @@ fn declare_names(scope: &mut Scope, names: &[Name]) -> Meaning<()>
 /// Declares the parameters, of which there may be none.
 pub fn declare_parameters(scope: &mut Scope, parameters: &Parameters) -> Meaning<()>
     requires { HasRoomForLocals scope.old }
-    ensures { DeclaresLocals (in_turn declared_parameter scope.old (parameters_names parameters.now)) scope.old scope.new
-        result }
+    ensures { DeclaresLocals (in_turn declared_parameter scope.old (parameters_names parameters.now))
+        scope.old scope.new result }
 {
     match parameters {
         Parameters::None => Ok(()),

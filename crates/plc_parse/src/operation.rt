@@ -77,7 +77,7 @@ pub fn operations(
 {
     let mut ops = Items::new(alloc);
     for form in forms {
-        let line = line_at(tokens, form.at);
+        let line = line_at(tokens, form.at, 0);
         let op = operation(alloc, scope, tokens, ops.len(), line, &form.value)?;
         ops.push(op)?;
     }

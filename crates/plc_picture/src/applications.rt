@@ -4,8 +4,8 @@ ghost use Rattle.std.specs.Prelude.{◌<◌, length};
 
 use crate::scene::{Scene, class_at};
 use plc_base::{FieldId, Items, NoMemory};
+use plc_encoding::{Execution, version};
 use plc_ground::{GroundTerm, Map};
-use plc_items::{Execution, version};
 use plc_lang::File;
 use std::alloc::Global;
 

@@ -3,8 +3,8 @@
 // then what variables hold in this state, then what was read, and at last what variables held before the step.
 use crate::scene::{Scene, class_of, is_read, is_variable};
 use plc_base::NoMemory;
+use plc_encoding::{Execution, current};
 use plc_ground::{GroundTerm, Symbol, is_distinguished};
-use plc_items::{Execution, current};
 
 /// What a class is called.
 #[derive(Clone, Copy)]

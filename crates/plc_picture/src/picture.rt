@@ -5,8 +5,8 @@ use plc_base::Items;
 /// A state of memory, as far as a model speaks of it.
 #[derive(Drop)]
 pub struct Picture {
-    /// The nodes to which pointers and fields of nodes lead. They are told by their numbers, which count from 0 here and
-    /// from 1 where they are drawn.
+    /// The nodes to which pointers and fields of nodes lead. They are told by their numbers, which count from 0 here
+    /// and from 1 where they are drawn.
     pub boxes: Items<NodeBox>,
     /// The pointers that are null.
     pub nulls: Items<Name>,

@@ -2,18 +2,18 @@
 // was there before the step, and what is executed says which versions and constants are there after it. So both
 // pictures are made by one way of reading, over what was executed: nothing, or all.
 ghost use Rattle.std.specs.Prelude.{◌<◌, length};
-ghost use Rattle.plc_setting.specs.Fit.{Fits};
+ghost use Rattle.plc_vocabulary.specs.Fit.{Fits};
 
 use crate::boxes::{boxes_of, nulls_of};
 use crate::picture::Picture;
 use crate::scene::Scene;
 use crate::state::{State, state_of};
 use plc_base::NoMemory;
+use plc_encoding::{Execution, execution_of};
 use plc_flow::Flow;
 use plc_ground::{GroundModel, GroundSet};
-use plc_items::{Execution, execution_of};
 use plc_logic::Outline;
-use plc_setting::{
+use plc_vocabulary::{
     Obligation, acting_locals, conclusion, owner_locals, program_uses_marks, setting_of,
 };
 use std::alloc::Global;

@@ -4,9 +4,9 @@ use crate::picture::Name;
 use crate::scene::{Scene, class_of, is_node, is_read};
 use crate::texts::symbol_text;
 use plc_base::{Items, NoMemory};
+use plc_encoding::{Execution, current};
 use plc_ground::{GroundTerm, Symbol};
-use plc_items::{Execution, current};
-use plc_setting::mark_of;
+use plc_vocabulary::mark_of;
 
 /// A constant that is a node, or null.
 #[derive(Clone, Copy)]

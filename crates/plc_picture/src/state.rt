@@ -7,8 +7,8 @@ use crate::nodes::node_classes;
 use crate::pointers::{Pointer, pointers_of};
 use crate::scene::{Scene, class_of};
 use plc_base::{Items, NoMemory};
+use plc_encoding::Execution;
 use plc_ground::Symbol;
-use plc_items::Execution;
 
 /// What the terms of a model say in a state.
 #[derive(Drop)]

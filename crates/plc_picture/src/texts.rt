@@ -1,11 +1,11 @@
 // What pictures call constants and fields: as the file does, with a word where the file has none. A local of the other
 // thread is told as the other's, since both threads may be in one operation.
 use crate::scene::Scene;
+use plc_answers::{push, push_bytes, push_number, push_numbered, value_text};
 use plc_base::{Items, NoMemory};
 use plc_ground::{Map, Symbol};
 use plc_lang::{auxiliary_name, field_name, local_name, shared_name};
 use plc_logic::Clause;
-use plc_texts::{push, push_bytes, push_number, push_numbered, value_text};
 use std::alloc::AllocError;
 
 /// The name that the clause gives a node.

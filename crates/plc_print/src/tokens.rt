@@ -18,26 +18,37 @@ pub enum Piece<'a> {
 }
 
 // The tokens that stand in several forms.
+/// `null`.
 pub const NULL: Piece = Piece::Word(Keyword::Null);
 
+/// `:=`.
 pub const ASSIGN: Piece = Piece::Sign(Symbol::Assign);
 
+/// `?=`.
 pub const REFRESH: Piece = Piece::Sign(Symbol::Refresh);
 
+/// `.`.
 pub const DOT: Piece = Piece::Sign(Symbol::Dot);
 
+/// `,`.
 pub const COMMA: Piece = Piece::Sign(Symbol::Comma);
 
+/// `:`.
 pub const COLON: Piece = Piece::Sign(Symbol::Colon);
 
+/// `;`.
 pub const SEMICOLON: Piece = Piece::Sign(Symbol::Semicolon);
 
+/// `(`.
 pub const OPEN: Piece = Piece::Sign(Symbol::OpenParen);
 
+/// `)`.
 pub const CLOSE: Piece = Piece::Sign(Symbol::CloseParen);
 
+/// `{`.
 pub const BEGIN: Piece = Piece::Sign(Symbol::OpenBrace);
 
+/// `}`.
 pub const END: Piece = Piece::Sign(Symbol::CloseBrace);
 
 /// What printing answers: nothing, or that memory ran out.

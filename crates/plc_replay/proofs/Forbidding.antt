@@ -10,7 +10,7 @@ use Rattle.plc_auto.specs.declared.observer.Observer.TheVariants.{Plain, Hazard,
 use Rattle.plc_auto.specs.Table.{is_well_formed}
 use Rattle.plc_auto.specs.Location.{Allowed}
 use Rattle.plc_flow.specs.declared.flow.Flow.{Flow}
-use Rattle.plc_threads.specs.declared.words.Move.{Move}
+use Rattle.plc_moves.specs.declared.words.Move.{Move}
 use Rattle.plc_flow.specs.WellSorted.{FlowIsWellSorted}
 use Rattle.plc_auto.specs.declared.scheme.Scheme.{Scheme}
 use Rattle.plc_reclaim.specs.Meanings.{Meanings}

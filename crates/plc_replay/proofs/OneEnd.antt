@@ -4,8 +4,8 @@ use Rattle.plc_base.specs.declared.ids.OpId.{OpId}
 use Rattle.plc_auto.specs.declared.event.Event.{Event}
 use Rattle.plc_auto.specs.declared.observer.Observer.{Observer}
 use Rattle.plc_flow.specs.declared.flow.Flow.{Flow}
-use Rattle.plc_threads.specs.declared.words.Move.{Move}
-use Rattle.plc_threads.specs.declared.words.Move.TheVariants as moves
+use Rattle.plc_moves.specs.declared.words.Move.{Move}
+use Rattle.plc_moves.specs.declared.words.Move.TheVariants as moves
 use Rattle.plc_mem.specs.declared.cell.RaceKind.{RaceKind}
 use Rattle.plc_auto.specs.declared.scheme.Scheme.{Scheme}
 use Rattle.plc_reclaim.specs.Meanings.{Meanings}

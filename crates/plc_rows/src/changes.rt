@@ -6,8 +6,8 @@ use plc_flow::Flow;
 use plc_html::Html;
 use plc_lang::{Field, File, Local, locals_of, name_at};
 use plc_mem::{Cell, Memory};
+use plc_moves::Place;
 use plc_run::Config;
-use plc_threads::Place;
 
 /// The number after that of the last address.
 pub(crate) const AFTER_ADDRESSES: u32 = MOST_ADDRESSES + 1;

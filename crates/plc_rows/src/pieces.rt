@@ -1,12 +1,12 @@
 // The pieces of which sentences on a run are made.
 use crate::traced::Written;
+use plc_answers::line_of;
 use plc_base::{PointId, StepId};
 use plc_flow::{Flow, Step};
 use plc_html::{Html, Tag};
 use plc_lang::{Prim, locals_of};
 use plc_mem::Cell;
-use plc_texts::line_of;
-use plc_words::{push_point, push_primitive, push_step};
+use plc_sentences::{push_point, push_primitive, push_step};
 
 /// A word and a number.
 pub fn push_numbered(html: &mut Html, word: &'static str, number: u32) -> Written {

@@ -6,7 +6,7 @@ use plc_base::FieldId;
 use plc_html::Html;
 use plc_lang::{Field, File, Local, locals_of, name_at};
 use plc_mem::Memory;
-use plc_threads::Place;
+use plc_moves::Place;
 
 /// What a pointer place holds.
 fn push_held(html: &mut Html, memory: &Memory, place: &Place) -> Written {

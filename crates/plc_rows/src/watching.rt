@@ -5,7 +5,7 @@ use crate::traced::{MOST_COLUMNS, Traced, Written};
 use plc_auto::{EvKind, Event, Observer};
 use plc_base::{LocId, Mask};
 use plc_html::Html;
-use plc_words::push_anywhere;
+use plc_sentences::push_anywhere;
 
 /// Where an event leads from a location.
 fn moved(observer: &Observer, at: LocId, event: &Event, t: u32, a: u32) -> Option<LocId> {

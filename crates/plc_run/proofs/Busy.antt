@@ -2,7 +2,7 @@
 use Rattle.std.specs.Prelude.{ℕ}
 use Rattle.plc_flow.specs.declared.flow.Flow.{Flow}
 use Rattle.plc_flow.specs.declared.points.Point.{Point}
-use Rattle.plc_threads.specs.Fit.{HoldsAt}
+use Rattle.plc_moves.specs.Fit.{HoldsAt}
 use Rattle.plc_mem.specs.State.{State}
 use Rattle.plc_run.specs.Fit.{LocalsFit}
 

@@ -8,8 +8,8 @@ use Rattle.plc_auto.specs.declared.observer.Observer.{Observer}
 use Rattle.plc_auto.specs.Location.{location, advance, Allowed}
 use Rattle.plc_auto.proofs.Histories.{location_longer, allowed_empty, allowed_free, allowed_last}
 use Rattle.plc_flow.specs.declared.flow.Flow.{Flow}
-use Rattle.plc_threads.specs.declared.words.Move.{Move}
-use Rattle.plc_threads.specs.declared.words.Move.TheVariants.{Start, Step as Take, Return, Free}
+use Rattle.plc_moves.specs.declared.words.Move.{Move}
+use Rattle.plc_moves.specs.declared.words.Move.TheVariants.{Start, Step as Take, Return, Free}
 use Rattle.plc_mem.specs.declared.cell.RaceKind.{RaceKind}
 use Rattle.plc_mem.specs.State.{State}
 use Rattle.plc_mem.specs.Primitives.{race_of, goes, after, event_of}

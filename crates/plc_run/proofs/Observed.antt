@@ -17,8 +17,8 @@ use Rattle.plc_auto.specs.Laws.{retired_by}
 use Rattle.plc_auto.proofs.Histories.{location_empty, location_live, allowed_empty, allowed_last, allowed_spoken}
 use Rattle.plc_auto.proofs.Letters.{retired_longer, initial_unretired}
 use Rattle.plc_flow.specs.declared.flow.Flow.{Flow}
-use Rattle.plc_threads.specs.declared.words.Move.{Move}
-use Rattle.plc_threads.specs.declared.words.Move.TheVariants.{Start, Step as Take, Return, Free}
+use Rattle.plc_moves.specs.declared.words.Move.{Move}
+use Rattle.plc_moves.specs.declared.words.Move.TheVariants.{Start, Step as Take, Return, Free}
 use Rattle.plc_mem.specs.declared.cell.Cell.{Cell}
 use Rattle.plc_mem.specs.declared.cell.RaceKind.{RaceKind}
 use Rattle.plc_mem.specs.State.{State, Place, Locals, null_cell, put, put_field_value, place, is_used, is_retired, with_node, with_locals, freed, first_state, no_locals}

@@ -12,14 +12,14 @@ use Rattle.plc_auto.specs.Location.{location, Allowed}
 use Rattle.plc_base.specs.declared.ids.OpId.{OpId}
 use Rattle.plc_flow.specs.declared.flow.Step.{Step}
 use Rattle.plc_flow.specs.declared.flow.Flow.{Flow}
-use Rattle.plc_threads.specs.declared.words.Move.{Move}
-use Rattle.plc_threads.specs.declared.words.Move.TheVariants.{Start, Step as Take, Return, Free}
+use Rattle.plc_moves.specs.declared.words.Move.{Move}
+use Rattle.plc_moves.specs.declared.words.Move.TheVariants.{Start, Step as Take, Return, Free}
 use Rattle.plc_flow.specs.declared.points.Point.{Point}
 use Rattle.plc_lang.specs.Allocation.{is_new}
 use Rattle.plc_run.specs.Run.{Ending, Fine, Stuck, Raced, Configuration, point_of, MayTake, taken, Moves, Races}
 use Rattle.plc_flow.specs.Points.{names_rightly}
-use Rattle.plc_threads.specs.Standing.{begun, step_of, at_exit}
-use Rattle.plc_threads.proofs.Moves.{begun_so, begins_so, taken_so, takes_so, exit_so, ends_so}
+use Rattle.plc_moves.specs.Standing.{begun, step_of, at_exit}
+use Rattle.plc_moves.proofs.Moves.{begun_so, begins_so, taken_so, takes_so, exit_so, ends_so}
 use Rattle.plc_run.specs.Position.{IsForbidden, HasNone}
 use Rattle.plc_run.specs.Reach.{Reached, Goes, Blocks, Forbids, Breaks, started, start_from, ended_as, take_step, step_from, return_from, may_free, free_of, reach}
 use Rattle.plc_base.proofs.Booleans.{same_if, if_same}

@@ -18,9 +18,9 @@ use Rattle.plc_flow.specs.declared.flow.Flow.{Flow}
 use Rattle.plc_flow.specs.declared.points.Point.{Point}
 use Rattle.plc_flow.specs.Points.{steps_from, names_rightly}
 use Rattle.plc_flow.specs.WellFormed.{IsWellFormed, FlowFits}
-use Rattle.plc_threads.specs.declared.words.Move.{Move}
-use Rattle.plc_threads.specs.declared.words.Move.TheVariants.{Start, Step as Take, Return, Free}
-use Rattle.plc_threads.specs.Standing.{entered, at_exit}
+use Rattle.plc_moves.specs.declared.words.Move.{Move}
+use Rattle.plc_moves.specs.declared.words.Move.TheVariants.{Start, Step as Take, Return, Free}
+use Rattle.plc_moves.specs.Standing.{entered, at_exit}
 use Rattle.plc_mem.specs.declared.cell.Outcome.{Outcome}
 use Rattle.plc_mem.specs.declared.cell.Outcome.TheVariants.{Next, Blocked, Race}
 use Rattle.plc_mem.specs.declared.cell.RaceKind.{RaceKind}

@@ -18,8 +18,8 @@ use Rattle.plc_base.specs.Tables.{put_at}
 use Rattle.plc_mem.specs.Primitives.{after_call, race_of, goes, after, event_of}
 use Rattle.plc_mem.specs.Fit.{shape}
 use Rattle.plc_base.proofs.Tables.{get-put_same, length_put}
-use Rattle.plc_threads.proofs.Places.{held_below}
-use Rattle.plc_threads.proofs.Fit.{IsNewAt, put_is_new}
+use Rattle.plc_moves.proofs.Places.{held_below}
+use Rattle.plc_moves.proofs.Fit.{IsNewAt, put_is_new}
 use Rattle.plc_run.specs.Run.{Ending, Fine, Stuck, Raced, turn, recorded, execute}
 
 -- thread t holds locals l before and m after; all else has its old shape

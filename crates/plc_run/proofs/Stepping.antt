@@ -4,9 +4,9 @@ use Rattle.std.proofs.lemmas.List.{length-replicate}
 use Rattle.plc_base.specs.declared.ids.OpId.{OpId}
 use Rattle.plc_base.specs.declared.memory.NoMemory.{NoMemory}
 use Rattle.plc_run.specs.Fit.{ConfigurationFits}
-use Rattle.plc_threads.specs.Standing.{begun, step_of, at_exit}
+use Rattle.plc_moves.specs.Standing.{begun, step_of, at_exit}
 use Rattle.plc_base.proofs.Tables.{put_is_set, length_put, put_put}
-use Rattle.plc_threads.proofs.Moves.{exit_so}
+use Rattle.plc_moves.proofs.Moves.{exit_so}
 use Rattle.plc_lang.specs.declared.syntax.Op.{Op}
 use Rattle.plc_lang.specs.declared.syntax.Primitive.{Primitive}
 use Rattle.plc_lang.specs.Shape.{Shape, PrimitivesIn}
@@ -15,8 +15,8 @@ use Rattle.plc_auto.specs.declared.observer.Observer.{Observer}
 use Rattle.plc_flow.specs.declared.flow.Step.{Step}
 use Rattle.plc_flow.specs.declared.flow.Flow.{Flow}
 use Rattle.plc_flow.specs.StepsByPoint.{IsIndexOf, first_points}
-use Rattle.plc_threads.specs.declared.words.Move.{Move}
-use Rattle.plc_threads.specs.declared.words.Move.TheVariants.{Start, Step as Take, Return, Free}
+use Rattle.plc_moves.specs.declared.words.Move.{Move}
+use Rattle.plc_moves.specs.declared.words.Move.TheVariants.{Start, Step as Take, Return, Free}
 use Rattle.plc_mem.specs.declared.cell.RaceKind.{RaceKind}
 use Rattle.plc_mem.specs.State.{State, Locals, with_locals, starting}
 use Rattle.plc_mem.specs.Fit.{shape}

@@ -9,8 +9,8 @@ use Rattle.plc_auto.specs.declared.observer.Observer.{Observer}
 use Rattle.plc_flow.specs.declared.flow.Step.{Step}
 use Rattle.plc_flow.specs.declared.flow.Gate.{Gate}
 use Rattle.plc_flow.specs.declared.flow.Flow.{Flow}
-use Rattle.plc_threads.specs.declared.words.Move.{Move}
-use Rattle.plc_threads.specs.declared.words.Move.TheVariants.{Start, Step as Take, Return, Free}
+use Rattle.plc_moves.specs.declared.words.Move.{Move}
+use Rattle.plc_moves.specs.declared.words.Move.TheVariants.{Start, Step as Take, Return, Free}
 use Rattle.plc_flow.specs.WellFormed.{FlowFits, IsPointOf}
 use Rattle.plc_auto.specs.declared.event.Event.{Event}
 use Rattle.plc_mem.specs.State.{State, Locals, null_cell, cut, cut_locals, freed, with_locals, first_state, no_locals, starting}
@@ -20,8 +20,8 @@ use Rattle.plc_base.proofs.Tables.{get-put_same, get-map}
 use Rattle.plc_flow.specs.declared.points.Point.{Point}
 use Rattle.plc_run.specs.Run.{Ending, Fine, Stuck, Raced, Configuration, point_of, Moves, Run, begin, more, beginning, initialised, first_configuration}
 use Rattle.plc_flow.specs.Points.{steps_from}
-use Rattle.plc_threads.specs.Fit.{ThreadFits}
-use Rattle.plc_threads.proofs.Fit.{put_is_new, thread_came, all_idle, idle_again}
+use Rattle.plc_moves.specs.Fit.{ThreadFits}
+use Rattle.plc_moves.proofs.Fit.{put_is_new, thread_came, all_idle, idle_again}
 use Rattle.plc_run.specs.Fit.{LocalsFit, ConfigurationFits}
 use Rattle.plc_run.specs.Ended.{IsOfFlow}
 use Rattle.plc_run.specs.Position.{Position, threads_of, IsOfRun}

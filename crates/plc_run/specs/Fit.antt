@@ -3,7 +3,7 @@ use Rattle.std.specs.Prelude.{◌≡◌, ℕ, length}
 use Rattle.plc_lang.specs.declared.syntax.Op.{Op}
 use Rattle.plc_lang.specs.Shape.{shape_of}
 use Rattle.plc_flow.specs.declared.flow.Flow.{Flow}
-use Rattle.plc_threads.specs.Fit.{ThreadsFit}
+use Rattle.plc_moves.specs.Fit.{ThreadsFit}
 use Rattle.plc_mem.specs.State.{State, Locals}
 use Rattle.plc_mem.specs.Fit.{shape}
 use Rattle.plc_run.specs.Run.{Configuration}

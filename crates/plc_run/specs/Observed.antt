@@ -7,7 +7,7 @@ use Rattle.plc_auto.specs.declared.observer.Observer.{Observer}
 use Rattle.plc_auto.specs.Table.{count_of}
 use Rattle.plc_auto.specs.Location.{location, Allowed, is_retired_after}
 use Rattle.plc_flow.specs.declared.flow.Flow.{Flow}
-use Rattle.plc_threads.specs.declared.words.Move.{Move}
+use Rattle.plc_moves.specs.declared.words.Move.{Move}
 use Rattle.plc_mem.specs.State.{State, is_retired}
 use Rattle.plc_mem.specs.Primitives.{race_of, goes, after, event_of}
 use Rattle.plc_mem.specs.Coherence.{IsCoherent}

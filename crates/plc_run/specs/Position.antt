@@ -7,14 +7,14 @@ use Rattle.plc_auto.specs.Locations.{Locations, of_threads, locations_after_all}
 use Rattle.plc_flow.specs.declared.flow.Flow.{Flow}
 use Rattle.plc_flow.specs.declared.steps_by_point.StepsByPoint.{StepsByPoint}
 use Rattle.plc_flow.specs.StepsByPoint.{IsIndexOf, first_points}
-use Rattle.plc_threads.specs.declared.words.Move.{Move}
-use Rattle.plc_threads.specs.declared.words.Move.TheVariants.{Start, Step as Take, Return, Free}
+use Rattle.plc_moves.specs.declared.words.Move.{Move}
+use Rattle.plc_moves.specs.declared.words.Move.TheVariants.{Start, Step as Take, Return, Free}
 use Rattle.plc_mem.specs.declared.cell.RaceKind.{RaceKind}
 use Rattle.plc_run.specs.declared.moved.Moved.{Moved}
 use Rattle.plc_run.specs.declared.moved.Moved.TheVariants as moved
 use Rattle.plc_run.specs.Run.{Configuration, Run, Moves, Races, first_configuration}
-use Rattle.plc_threads.specs.declared.words.StartFault.{StartFault}
-use Rattle.plc_threads.specs.declared.words.StartFault.TheVariants as faults
+use Rattle.plc_moves.specs.declared.words.StartFault.{StartFault}
+use Rattle.plc_moves.specs.declared.words.StartFault.TheVariants as faults
 
 -- the configuration of a run, whether a race has ended it, where each thread stands for each address, and the index by
 -- which the steps of a point are found

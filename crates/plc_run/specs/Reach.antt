@@ -11,8 +11,8 @@ use Rattle.plc_auto.specs.Location.{location, advance}
 use Rattle.plc_flow.specs.declared.flow.Step.{Step}
 use Rattle.plc_flow.specs.declared.flow.Flow.{Flow}
 use Rattle.plc_flow.specs.StepsByPoint.{IsIndexOf, first_points}
-use Rattle.plc_threads.specs.declared.words.Move.{Move}
-use Rattle.plc_threads.specs.declared.words.Move.TheVariants.{Start, Step as Take, Return, Free}
+use Rattle.plc_moves.specs.declared.words.Move.{Move}
+use Rattle.plc_moves.specs.declared.words.Move.TheVariants.{Start, Step as Take, Return, Free}
 use Rattle.plc_mem.specs.declared.cell.RaceKind.{RaceKind}
 use Rattle.plc_mem.specs.declared.undo.Undo.{Undo}
 use Rattle.plc_mem.specs.Undoing.{TakesBack}
@@ -28,7 +28,7 @@ use Rattle.plc_run.specs.Run.{Ending, Fine, Stuck, Raced, Configuration, execute
 use Rattle.plc_run.specs.Ended.{ending}
 use Rattle.plc_run.specs.Position.{Position, threads_of, Follows}
 use Rattle.plc_flow.specs.Points.{names_rightly}
-use Rattle.plc_threads.specs.Standing.{begun, step_of, at_exit}
+use Rattle.plc_moves.specs.Standing.{begun, step_of, at_exit}
 
 -- a configuration, none, a free that the observer forbids, or a race
 pub data Reached : Type 0 where

@@ -23,7 +23,7 @@ use plc_base::{NoMemory, OpId};
 use plc_flow::{Flow, Point, Step, StepsByPoint, names_rightly};
 use plc_lang::Prim;
 use plc_mem::{Locals, Memory, RaceKind, Undo};
-use plc_threads::{
+use plc_moves::{
     Move, StartFault, arrival, at_exit, begun, indexed_step_at, none_held, point_at, set_point,
 };
 use std::alloc::Global;
@@ -55,7 +55,8 @@ fn idle_after(
 ) -> Result<Idle, NoMemory>
     requires { FlowFits flow.now }
     ensures points { IfOk result (λ idle. idle.points.items ≡ replicate threads None) }
-    ensures located { IfOk result (λ idle. idle.located ≡ locations_after_all (of_threads observer.now threads) history.now) }
+    ensures located { IfOk result (λ idle.
+        idle.located ≡ locations_after_all (of_threads observer.now threads) history.now) }
     ensures indexed { IfOk result (λ idle. IsIndexOf (first_points flow.now) idle.steps) }
 {
     let points = none_held(alloc, threads as usize)?;

@@ -17,7 +17,7 @@ use plc_base::{NoMemory, OpId};
 use plc_flow::{Flow, Step, names_rightly};
 use plc_lang::{Prim, count_parameters};
 use plc_mem::{Locals, Memory, Outcome};
-use plc_threads::{Move, at_exit};
+use plc_moves::{Move, at_exit};
 
 impl Config {
     /// Why there is no such move here, with the flow of the start: the first cause in the order in which a move is

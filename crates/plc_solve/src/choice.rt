@@ -196,8 +196,8 @@ fn false_single(
     None
 }
 
-/// A false clause with the fewest open literals, the first of one literal if there is one. `seen` has for each clause where a literal was last
-/// seen true.
+/// A false clause with the fewest open literals, the first of one literal if there is one. `seen` has for each clause
+/// where a literal was last seen true.
 fn choose(set: &GroundSet, survey: &Survey, class: &[u32], seen: &mut [usize]) -> Option<Choice>
     requires classed { IsClassed set.now class.now }
     requires survey { IsSurvey set.now survey.now }

@@ -4,8 +4,8 @@ use Rattle.plc_lang.specs.declared.syntax.Primitive.{Primitive}
 use Rattle.plc_lang.specs.declared.syntax.Primitive.TheVariants.{Active}
 use Rattle.plc_flow.specs.declared.flow.Flow.{Flow}
 use Rattle.plc_flow.specs.declared.flow.Step.{Step}
-use Rattle.plc_threads.specs.declared.words.Move.{Move}
-use Rattle.plc_threads.specs.declared.words.Move.TheVariants.{Step as Take}
+use Rattle.plc_moves.specs.declared.words.Move.{Move}
+use Rattle.plc_moves.specs.declared.words.Move.TheVariants.{Step as Take}
 use Rattle.plc_flow.specs.declared.points.Point.{Point}
 use Rattle.plc_mem.specs.declared.cell.Cell.{Cell}
 use Rattle.plc_mem.specs.State.{State, is_retired}

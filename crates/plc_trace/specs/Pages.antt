@@ -4,7 +4,7 @@ use Rattle.plc_sched.specs.declared.schedule.Schedule.{Schedule}
 use Rattle.plc_reclaim.specs.Meanings.{Meanings}
 use Rattle.plc_check.specs.declared.judged.Judged.{Judged}
 use Rattle.plc_sched.specs.declared.fault.SchedFault.{SchedFault}
-use Rattle.plc_texts.specs.Replays.{schedule_fault_text}
+use Rattle.plc_answers.specs.Replays.{schedule_fault_text}
 use Rattle.plc_cli.specs.Statuses.{refused}
 use Rattle.plc_cli.specs.Answer.{IsReplayOf, IsScheduleAnswered, IsEndOf}
 use Rattle.plc_page.specs.declared.page.Page.{Page}

@@ -6,11 +6,11 @@ use crate::racing::push_race;
 use crate::refused::push_refusal;
 use plc_html::{Html, Tag};
 use plc_mem::RaceKind;
+use plc_moves::Move;
 use plc_replay::End;
 use plc_rows::{Traced, Written, push_forbidding, push_name, push_numbered, step_of};
 use plc_run::Config;
 use plc_sched::Entry;
-use plc_threads::Move;
 
 /// A run up to its last line.
 #[derive(Clone, Copy)]

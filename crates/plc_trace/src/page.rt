@@ -7,6 +7,7 @@ ghost use Rattle.plc_cli.specs.Answer.{CanBeReplayed};
 ghost use Rattle.plc_trace.specs.Pages.{ShowsReplay, ShowsSchedule, ShowsEnd, SaysUnscheduled};
 
 use crate::running::trace;
+use plc_answers::schedule_fault_text;
 use plc_base::NoMemory;
 use plc_check::{Judged, LoadFault, load};
 use plc_cli::{REFUSED, Recorded, answer_schedule};
@@ -14,7 +15,6 @@ use plc_html::{Html, Subject};
 use plc_page::{Page, page_of, push_file, push_numbered_lines, refused_page};
 use plc_reclaim::Reclaimer;
 use plc_sched::{SchedFault, read_schedule};
-use plc_texts::schedule_fault_text;
 use std::alloc::Global;
 
 /// The bytes of a file and those of a schedule, and the title of their page.

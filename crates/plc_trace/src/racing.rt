@@ -1,17 +1,17 @@
 // Why the last line is a race: which primitive of the step is one, by which pointer, and when that pointer's node was
 // retired and freed.
 use crate::ending::Reached;
+use plc_answers::variable_in;
 use plc_base::StepId;
 use plc_flow::Step;
 use plc_html::Html;
 use plc_lang::{Prim, Var, assigned, risked};
 use plc_mem::{Cell, RaceKind};
+use plc_moves::Place;
 use plc_rows::{
     Traced, Written, last_free, last_retirement, push_cell, push_line_of, push_name, push_numbered,
     push_prim, push_taken_step,
 };
-use plc_texts::variable_in;
-use plc_threads::Place;
 
 /// Whether one of these primitives assigns the variable.
 fn is_assigned(prims: &[Prim], var: Var) -> bool {

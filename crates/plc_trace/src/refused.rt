@@ -3,9 +3,9 @@ use plc_base::OpId;
 use plc_flow::{Flow, Point, Step};
 use plc_html::Html;
 use plc_lang::{Prim, accessed, count_parameters, operation_name};
+use plc_moves::Move;
 use plc_rows::{Traced, Written, push_name, push_numbered, push_place, push_prim, step_of};
 use plc_run::{Config, Refusal};
-use plc_threads::Move;
 
 /// Why a primitive is blocked.
 fn why_blocked(prim: &Prim) -> &'static str {

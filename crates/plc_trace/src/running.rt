@@ -13,12 +13,12 @@ use plc_cli::{Recorded, end_of};
 use plc_flow::StepsByPoint;
 use plc_html::Html;
 use plc_mem::Memory;
+use plc_moves::StartFault;
 use plc_reclaim::Reclaimer;
 use plc_replay::{End, begin_reclaimer};
 use plc_rows::{Traced, Written, push_first, push_heads, push_standing};
 use plc_run::Config;
 use plc_sched::Entry;
-use plc_threads::StartFault;
 use std::alloc::Global;
 
 /// How many lines of a schedule a page shows at most.

@@ -8,15 +8,15 @@ ghost use Rattle.plc_trace.specs.Going.{GoesOnFrom, MayTake, GoesOn};
 
 use crate::ending::{Reached, push_ending, push_unknown};
 use crate::log::Log;
+use plc_answers::line_of;
 use plc_base::NoMemory;
 use plc_mem::Memory;
+use plc_moves::Move;
 use plc_reclaim::Reclaimer;
 use plc_replay::{End, Wanted, ask, take_line, take_move};
 use plc_rows::{Row, Taken, Traced, Written, note, push_row, taken_by};
 use plc_run::Config;
 use plc_sched::Entry;
-use plc_texts::line_of;
-use plc_threads::Move;
 
 /// A run while its lines are taken, and what is written of it.
 #[derive(Drop)]

@@ -2,7 +2,7 @@
 // another is judged before, on the tokens: where a block stands too deep, the tokens are cut off after
 // its brace and read. A fault at or before the brace is the fault of the syntax; with a fault after it
 // or a tree the tokens up to the brace begin a file. So no reader of forms counts blocks.
-ghost use Rattle.std.specs.Prelude.{◌≡◌, ◌<◌, ◌^◌, ℕ, length, IfOk, IfErr};
+ghost use Rattle.std.specs.Prelude.{◌<◌, ◌^◌, ℕ, length, IfOk, IfErr};
 ghost use Rattle.plc_syntax.specs.Nesting.{NoneTooDeep};
 ghost use Rattle.plc_syntax.specs.Stops.{SyntaxFaultAt, NestingFaultAt};
 ghost use Rattle.plc_syntax.specs.Syntax.{kinds, AreOfFile, IsFile};

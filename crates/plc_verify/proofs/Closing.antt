@@ -16,7 +16,7 @@ use Rattle.plc_ground.specs.Trees.{Closes, IsVerdict}
 use Rattle.plc_oblig.specs.Alike.{IsNotedAs}
 use Rattle.plc_oblig.proofs.OneSet.{more_noted}
 use Rattle.plc_verify.specs.Tests.{NotedClose, IsVerdictAt}
-use Rattle.plc_setting.specs.declared.obligations.Obligation.{Obligation}
+use Rattle.plc_vocabulary.specs.declared.obligations.Obligation.{Obligation}
 use Rattle.plc_oblig.specs.Obligations.{obligations}
 use Rattle.plc_oblig.specs.GroundSets.{ground_set}
 use Rattle.plc_verify.specs.Trees.{ClosesAt, TreesClose, FailsAtTree}

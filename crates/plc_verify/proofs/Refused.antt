@@ -19,7 +19,7 @@ use Rattle.plc_flow.specs.Skeleton.{skeleton_of, passage_of}
 use Rattle.plc_logic.specs.declared.clause.Outline.{Outline}
 use Rattle.plc_ground.proofs.Verdicts.{one_verdict}
 use Rattle.plc_ground.proofs.Refuting.{closed_has_no_model}
-use Rattle.plc_setting.specs.Fit.{Fits}
+use Rattle.plc_vocabulary.specs.Fit.{Fits}
 use Rattle.plc_oblig.specs.Obligations.{obligations}
 use Rattle.plc_oblig.specs.GroundSets.{ground_set}
 use Rattle.plc_cert.specs.declared.cert.Cert.{Cert}

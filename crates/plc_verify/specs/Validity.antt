@@ -5,7 +5,7 @@ use Rattle.plc_xfer.specs.Typings.{IsTyping, HasTyping}
 use Rattle.plc_flow.specs.declared.flow.Flow.{Flow}
 use Rattle.plc_flow.specs.Skeleton.{skeleton_of}
 use Rattle.plc_logic.specs.declared.clause.Outline.{Outline}
-use Rattle.plc_setting.specs.Marks.{program_uses_marks}
+use Rattle.plc_vocabulary.specs.Marks.{program_uses_marks}
 use Rattle.plc_oblig.specs.Outlines.{OutlineHolds}
 use Rattle.plc_cert.specs.declared.cert.Cert.{Cert}
 use Rattle.plc_verify.specs.declared.fault.VerifyFault.{VerifyFault}

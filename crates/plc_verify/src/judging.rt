@@ -1,6 +1,6 @@
 // The judge of certificates: first the version, then the environments, then the trees.
 ghost use Rattle.std.specs.Prelude.{◌≡◌, MatchResult};
-ghost use Rattle.plc_setting.specs.Fit.{Fits};
+ghost use Rattle.plc_vocabulary.specs.Fit.{Fits};
 ghost use Rattle.plc_verify.specs.Validity.{IsValid, IsRefused};
 
 use crate::fault::VerifyFault;

@@ -2,7 +2,7 @@
 // and one ground set is made at a time, so that no list of either is held. Obligations that are alike have one set, and
 // mostly one tree too: then the tree is tried once.
 ghost use Rattle.std.specs.Prelude.{◌≡◌, ◌<◌, IsTrue, IfOk, OnOk, MatchResult, length};
-ghost use Rattle.plc_setting.specs.Fit.{Fits};
+ghost use Rattle.plc_vocabulary.specs.Fit.{Fits};
 ghost use Rattle.plc_oblig.specs.Programs.{ProgramFits, obligations_of};
 ghost use Rattle.plc_verify.specs.Trees.{TreesClose};
 ghost use Rattle.plc_verify.specs.Tests.{MayNotClose};

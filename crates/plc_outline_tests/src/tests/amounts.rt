@@ -1,7 +1,7 @@
 // How large ground sets are: those of all obligations of a file together, as an independent reading of the format
 // counts them (it takes each of the six empty clauses of the stack for one literal, they have none), and one with as
 // many clauses as there may be.
-ghost use Rattle.plc_setting.specs.Fit.{Fits};
+ghost use Rattle.plc_vocabulary.specs.Fit.{Fits};
 
 use crate::tests::deep::{DEEP, DEEP_MARKED};
 use crate::tests::loading::{Asked, answered};

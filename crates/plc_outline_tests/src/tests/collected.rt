@@ -11,8 +11,8 @@ use plc_check::Judged;
 use plc_flow::Flow;
 use plc_gc::{GcConfig, holds};
 use plc_logic::{Clause, Item, Outline};
+use plc_moves::{Move, Place, StartFault};
 use plc_testing::{HAZARDS, put};
-use plc_threads::{Move, Place, StartFault};
 use std::alloc::{AllocError, Global};
 
 // The number of a word, 0 where it is none.

@@ -12,9 +12,9 @@ use plc_base::NoMemory;
 use plc_check::Judged;
 use plc_gc::GcConfig;
 use plc_mem::Memory;
+use plc_moves::Place;
 use plc_run::Config;
 use plc_testing::put;
-use plc_threads::Place;
 use std::alloc::{AllocError, Global};
 
 // Places by short names: the shared pointer, and the first local of each thread.

@@ -2,7 +2,7 @@
 // its ends while it owns one costs more than all else that a test says.
 ghost use Rattle.plc_flow.specs.WellFormed.{FlowFits};
 ghost use Rattle.plc_flow.specs.WellSorted.{FlowIsWellSorted};
-ghost use Rattle.plc_setting.specs.Fit.{Fits};
+ghost use Rattle.plc_vocabulary.specs.Fit.{Fits};
 
 use plc_base::NoMemory;
 use plc_check::Judged;
@@ -13,7 +13,7 @@ use std::alloc::Global;
 pub(crate) trait Asked {
     ghost use Rattle.plc_flow.specs.WellFormed.{FlowFits};
     ghost use Rattle.plc_flow.specs.WellSorted.{FlowIsWellSorted};
-    ghost use Rattle.plc_setting.specs.Fit.{Fits};
+    ghost use Rattle.plc_vocabulary.specs.Fit.{Fits};
 
     fn answer(&self, alloc: Global, judged: &Judged) -> Result<String, NoMemory>
         requires whole { Fits judged.now.flow judged.now.unit_outline }

@@ -1,7 +1,7 @@
 // Ground sets of files that use marks, as two independent readings of the format give them. Of the file that hands a
 // marked node on all of its sets are here. `whole_sets.rt` tells how a set is written; beside that `ms0` is the mark of
-// a shared pointer, `ma1` and `mb1` are those of locals, `ml0` is that of a load, and `m0.1@3` is version 1 of the marks
-// in a field at term 3.
+// a shared pointer, `ma1` and `mb1` are those of locals, `ml0` is that of a load, and `m0.1@3` is version 1 of the
+// marks in a field at term 3.
 
 // One step with each word of marks, and with tests, a load and a store beside them.
 const EACH_WORD: &str =

@@ -1,7 +1,7 @@
 // How many obligations files have, and which stand at some numbers. `s0` is that of a start and its invariant, `e0.1`
 // that of an operation's entry and its clause, `o0.1` that of a step and its clause, `i0.1.2` that of a step, a
 // point and its clause, `c0.1` that of a step and its primitive.
-ghost use Rattle.plc_setting.specs.Fit.{Fits};
+ghost use Rattle.plc_vocabulary.specs.Fit.{Fits};
 
 use crate::tests::deep::DEEP;
 use crate::tests::loading::{Asked, answered};

@@ -1,7 +1,7 @@
 // Ground sets of obligations as an independent reading of the format gives them: one of each kind and one at depth 1
 // whole (`whole_sets.rt` tells how a set is written), others by checksums, with loads, `retire` and premises at depth 1
 // among them. So do those of files that use marks (`marked_sets.rt`).
-ghost use Rattle.plc_setting.specs.Fit.{Fits};
+ghost use Rattle.plc_vocabulary.specs.Fit.{Fits};
 
 use crate::tests::checksums::{OF_DEEP, OF_DEEP_MARKED, OF_HAZARDS};
 use crate::tests::deep::{DEEP, DEEP_MARKED};

@@ -9,9 +9,9 @@ use plc_base::{FieldId, Items, NoMemory, OpId};
 use plc_check::Judged;
 use plc_flow::Flow;
 use plc_mem::Memory;
+use plc_moves::{Move, Place};
 use plc_run::{Config, Moved};
 use plc_testing::{loaded, put};
-use plc_threads::{Move, Place};
 use std::alloc::{AllocError, Global};
 use std::process::Abort;
 

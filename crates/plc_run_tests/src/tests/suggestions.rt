@@ -1,6 +1,6 @@
 // Claims that are suggested, beside those that trying finds. In small files all sets of places for claims are tried,
-// and then one place after the other is left out, as the definition says. In larger ones the claims that stand there are
-// taken out, and those that are suggested must do in their stead, with none to spare. A claim is put into the flow
+// and then one place after the other is left out, as the definition says. In larger ones the claims that stand there
+// are taken out, and those that are suggested must do in their stead, with none to spare. A claim is put into the flow
 // itself, since not every place for one is a place in the text.
 ghost use Rattle.std.specs.Prelude.{◌≡◌, ◌≤◌, IfOk, length};
 ghost use Rattle.plc_lang.specs.Fit.{FileFits};

@@ -266,8 +266,8 @@ fn text_has(rt: &impl Abort, alloc: Global, row: &str, more: u32, want: &str) {
     answers_over(rt, alloc, field(row, 0), text.as_bytes(), want);
 }
 
-// Fails where an answer of a row isn't as is wanted: one to its text, or where the row has a second one, one to the text
-// with a part more.
+// Fails where an answer of a row isn't as is wanted: one to its text, or where the row has a second one, one to the
+// text with a part more.
 fn row_is(rt: &impl Abort, alloc: Global, row: &str) {
     text_has(rt, alloc, row, 0, field(row, 5).trim_end());
     if let Some(want) = row.split("|").nth(6) {

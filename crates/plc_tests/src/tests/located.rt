@@ -13,9 +13,9 @@ use plc_base::{Items, LocId, NoMemory, OpId};
 use plc_check::Judged;
 use plc_flow::{Flow, Point, names_rightly};
 use plc_lang::count_parameters;
+use plc_moves::{Move, Place, arrival, at_exit, begun, point_at, step_at};
 use plc_run::{Config, Moved};
 use plc_testing::loaded;
-use plc_threads::{Move, Place, arrival, at_exit, begun, point_at, step_at};
 use std::alloc::{AllocError, Global};
 
 const THREADS: u32 = 3;

@@ -1,17 +1,17 @@
 // Outlines that don't hold: the first line of the answer, and that the classes which it prints are a model of the
 // ground set of the obligation that it tells. Which model is printed is left open, so no row has it. Beside them a
 // few samples that are larger than any file here.
-ghost use Rattle.plc_setting.specs.Fit.{Fits};
+ghost use Rattle.plc_vocabulary.specs.Fit.{Fits};
 
 use crate::tests::locations::file_text;
 use crate::tests::program::{answer_over, text_over};
 use crate::tests::texts::{first_of, halves, text_is};
+use plc_answers::unproved_text;
 use plc_base::{Items, NoMemory};
 use plc_check::Judged;
 use plc_ground::{GroundModel, GroundSet, is_model};
 use plc_oblig::{Obligation, count, ground, nth};
 use plc_testing::loaded;
-use plc_texts::unproved_text;
 use std::alloc::{AllocError, Global};
 
 // The classes that an answer prints, each at the end of a term's line.

@@ -1,5 +1,5 @@
-// Texts that are wanted, and parts of texts. A test hands its texts on, owns none at its own ends, and has one end: what
-// a function has to show at each of its ends while it owns one costs more than all else that a test says. So what
+// Texts that are wanted, and parts of texts. A test hands its texts on, owns none at its own ends, and has one end:
+// what a function has to show at each of its ends while it owns one costs more than all else that a test says. So what
 // compares takes the handle by which a test fails, and fails there, also where memory ran out for the text.
 use std::alloc::{AllocError, Global};
 use std::process::Abort;

@@ -1,6 +1,6 @@
 use Rattle.std.proofs.Common.{List, [], ◌∷◌, ◌++◌, sym, subst}
 use Rattle.plc_oblig.specs.Obligations.{obligations}
-use Rattle.plc_setting.specs.declared.obligations.Obligation.{Obligation}
+use Rattle.plc_vocabulary.specs.declared.obligations.Obligation.{Obligation}
 use Rattle.plc_ground.specs.declared.terms.Tree.{Tree}
 use Rattle.plc_check.specs.Counterexamples.{AddsShown, NotedHaveTrees}
 use Rattle.plc_check.proofs.Matching.{TreesSoFar, no_trees, one_more, kept_so_far}

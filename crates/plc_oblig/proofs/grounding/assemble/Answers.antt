@@ -1,5 +1,5 @@
 use Rattle.std.proofs.Common.{map, ap, ◌∙◌}
-use Rattle.plc_setting.specs.Sorts.{sort_of}
+use Rattle.plc_vocabulary.specs.Sorts.{sort_of}
 use Rattle.plc_oblig.specs.GroundSets.{drafted}
 use Rattle.plc_oblig.proofs.Assembled.{assembled}
 use Rattle.plc_oblig.proofs.WellFormed.{made_well_formed}

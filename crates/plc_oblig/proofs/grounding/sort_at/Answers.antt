@@ -1,7 +1,7 @@
 use Rattle.std.proofs.Common.{Some, ap, sym, ◌∙◌}
 use Rattle.std.proofs.lemmas.Option.{slice_get-map}
 use Rattle.std.specs.Option.{option_map}
-use Rattle.plc_setting.specs.Sorts.{sort_of}
+use Rattle.plc_vocabulary.specs.Sorts.{sort_of}
 use Rattle.plc_oblig.proofs.grounding.sort_at.Goals as goal
 
 pub returns : goal.returns

@@ -1,5 +1,5 @@
 use Rattle.std.proofs.Common.{◌≡◌, map, take}
-use Rattle.plc_setting.specs.Sorts.{sort_of}
+use Rattle.plc_vocabulary.specs.Sorts.{sort_of}
 use Rattle.plc_oblig.proofs.grounding.sorts_of.Given as goal
 
 abbrev pub invariant-loop-k : goal.invariant-loop-k

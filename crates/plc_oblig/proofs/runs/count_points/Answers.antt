@@ -1,7 +1,7 @@
 use Rattle.std.proofs.Common.{◌++◌, ◌∷◌, [], take, ap, sym, ◌∙◌, arith}
 use Rattle.std.proofs.lemmas.List.{length-set, take_more_set}
 use Rattle.std.proofs.lemmas.List.FromFn.{map-range_with_len_more}
-use Rattle.plc_setting.specs.Points.{count_at}
+use Rattle.plc_vocabulary.specs.Points.{count_at}
 use Rattle.plc_oblig.proofs.runs.count_points.Goals as goal
 
 pub loop-p-preserved : goal.loop-p-preserved

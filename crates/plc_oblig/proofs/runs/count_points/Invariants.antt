@@ -1,6 +1,6 @@
 use Rattle.std.proofs.Common.{◌≡◌, length, map, take}
-use Rattle.plc_setting.specs.Points.{count_at}
-use Rattle.plc_setting.specs.Setting.{below}
+use Rattle.plc_vocabulary.specs.Points.{count_at}
+use Rattle.plc_vocabulary.specs.Setting.{below}
 use Rattle.plc_oblig.proofs.runs.count_points.Given as goal
 
 abbrev pub invariant-loop-p : goal.invariant-loop-p

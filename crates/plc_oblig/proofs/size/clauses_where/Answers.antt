@@ -1,8 +1,8 @@
 use Rattle.std.proofs.Common.{sym, ap, ◌∙◌, sum_by, length}
-use Rattle.plc_setting.specs.Parts.{executed as executed_of}
-use Rattle.plc_setting.specs.Setting.{setting_of}
-use Rattle.plc_items.specs.Execution.{start, after_all}
-use Rattle.plc_items.specs.Items.{values_from}
+use Rattle.plc_vocabulary.specs.Parts.{executed as executed_of}
+use Rattle.plc_vocabulary.specs.Setting.{setting_of}
+use Rattle.plc_encoding.specs.Execution.{start, after_all}
+use Rattle.plc_encoding.specs.Items.{values_from}
 use Rattle.plc_oblig.specs.Size.{clause_size, prim_size}
 use Rattle.plc_oblig.proofs.Executed.{executed_length}
 use Rattle.plc_oblig.proofs.Wholes.{whole_length, set_length}

@@ -1,5 +1,5 @@
 use Rattle.std.proofs.Common.{ap, ◌∙◌, arith}
-use Rattle.plc_setting.specs.Setting.{bound_of}
+use Rattle.plc_vocabulary.specs.Setting.{bound_of}
 use Rattle.plc_oblig.proofs.Bounds.{few_bound}
 use Rattle.plc_oblig.proofs.size.count_bound.Goals as goal
 

@@ -2,7 +2,7 @@ use Rattle.std.proofs.Common.{length, ap, arith}
 use Rattle.std.proofs.lemmas.List.Sums.{count_by-le-length}
 use Rattle.plc_oblig.specs.Size.{is_pointer_load}
 use Rattle.plc_oblig.proofs.size.count_loads.Goals as goal
-use Rattle.plc_setting.proofs.Fitting.{executed_short}
+use Rattle.plc_vocabulary.proofs.Fitting.{executed_short}
 
 pub returns-clause-few : goal.returns-clause-few
 returns-clause-few c =

@@ -2,7 +2,7 @@ use Rattle.std.proofs.Common.{length, ap, arith}
 use Rattle.std.proofs.lemmas.List.Sums.{count_by-le-length}
 use Rattle.plc_lang.specs.Locals.{is_pointer}
 use Rattle.plc_oblig.proofs.size.count_theirs.Goals as goal
-use Rattle.plc_setting.proofs.Fitting.{owner_few}
+use Rattle.plc_vocabulary.proofs.Fitting.{owner_few}
 
 pub returns-clause-few : goal.returns-clause-few
 returns-clause-few c =

@@ -1,6 +1,6 @@
 use Rattle.std.proofs.Common.{◌≡◌, ◌+◌, ◌*◌, ◌≤◌, drop, map, filter, sum_by}
 use Rattle.plc_logic.specs.declared.clause.Item.{Item}
-use Rattle.plc_setting.specs.Points.{stands_at, clauses_at}
+use Rattle.plc_vocabulary.specs.Points.{stands_at, clauses_at}
 use Rattle.plc_oblig.specs.Size.{clause_size, most_instances}
 use Rattle.plc_oblig.proofs.size.point_size.Given as goal
 

@@ -1,6 +1,6 @@
 use Rattle.std.proofs.Common.{None, get_or, option_map, ap, ◌∙◌, sym}
-use Rattle.plc_threads.specs.Standing.{step_of}
-use Rattle.plc_threads.proofs.Moves.{taken_so}
+use Rattle.plc_moves.specs.Standing.{step_of}
+use Rattle.plc_moves.proofs.Moves.{taken_so}
 use Rattle.plc_gc.specs.contracts.config.GcConfig.{the_view}
 use Rattle.plc_gc.specs.Run.{MayTake}
 use Rattle.plc_gc.specs.Position.{threads_of}

@@ -1,6 +1,6 @@
 use Rattle.std.proofs.Common.{None, get_or, ap, ◌∙◌, sym}
-use Rattle.plc_threads.specs.Standing.{at_exit}
-use Rattle.plc_threads.proofs.Moves.{exit_so}
+use Rattle.plc_moves.specs.Standing.{at_exit}
+use Rattle.plc_moves.proofs.Moves.{exit_so}
 use Rattle.plc_gc.specs.contracts.config.GcConfig.{the_view}
 use Rattle.plc_gc.proofs.Stepping.{room}
 use Rattle.plc_gc.proofs.config.GcConfig.return_move.Goals as goal

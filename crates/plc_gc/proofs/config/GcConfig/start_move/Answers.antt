@@ -1,6 +1,6 @@
 use Rattle.std.proofs.Common.{option_map, ap, ◌∙◌, sym}
-use Rattle.plc_threads.specs.Standing.{begun}
-use Rattle.plc_threads.proofs.Moves.{begun_so}
+use Rattle.plc_moves.specs.Standing.{begun}
+use Rattle.plc_moves.proofs.Moves.{begun_so}
 use Rattle.plc_gc.specs.contracts.config.GcConfig.{the_view}
 use Rattle.plc_gc.proofs.Stepping.{room}
 use Rattle.plc_gc.proofs.config.GcConfig.start_move.Goals as goal

@@ -1,8 +1,8 @@
 use Rattle.std.proofs.Common.{[], ◌∷◌, subst, sym, ap, ◌∙◌}
 use Rattle.plc_ground.specs.Fit.{IsWellFormed}
 use Rattle.plc_ground.specs.Trees.{Closes, SplitsOnce}
-use Rattle.plc_setting.specs.Setting.{setting_of}
-use Rattle.plc_items.specs.Execution.{start, after_all}
+use Rattle.plc_vocabulary.specs.Setting.{setting_of}
+use Rattle.plc_encoding.specs.Execution.{start, after_all}
 use Rattle.plc_oblig.specs.Direct.{IsRefutedByLast, IsPremise, denied_count, direct_nodes}
 use Rattle.plc_oblig.specs.GroundSets.{ground_set}
 use Rattle.plc_oblig.proofs.Ending.{one_clause}

@@ -1,5 +1,5 @@
 use Rattle.std.proofs.Common.{None, get_or, refl, sym, ap, ◌∙◌, subst}
-use Rattle.plc_threads.specs.Standing.{at_exit}
+use Rattle.plc_moves.specs.Standing.{at_exit}
 use Rattle.plc_run.specs.Reach.{Reached, Reaches}
 use Rattle.plc_run.specs.contracts.config.Config.{the_view}
 use Rattle.plc_run.proofs.Stepping.{returned}

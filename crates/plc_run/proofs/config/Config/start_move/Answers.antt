@@ -1,7 +1,7 @@
 use Rattle.std.proofs.Common.{Some, option_map, refl, sym, ap, ◌∙◌, subst, arith}
-use Rattle.plc_threads.specs.Standing.{begun}
-use Rattle.plc_threads.specs.Fit.{ThreadFits}
-use Rattle.plc_threads.proofs.Moves.{begun_so}
+use Rattle.plc_moves.specs.Standing.{begun}
+use Rattle.plc_moves.specs.Fit.{ThreadFits}
+use Rattle.plc_moves.proofs.Moves.{begun_so}
 use Rattle.plc_mem.specs.State.{with_locals}
 use Rattle.plc_run.specs.Fit.{LocalsFit}
 use Rattle.plc_run.specs.Reach.{Reached, Reaches}

@@ -1,7 +1,7 @@
 use Rattle.std.proofs.Common.{◌≡◌, Some, None, IfOk, OnOk, subst, sym, ap, ◌∙◌, get_or, length, option_map}
 use Rattle.plc_flow.specs.StepsByPoint.{IsIndexOf, first_points}
-use Rattle.plc_threads.specs.Standing.{step_of}
-use Rattle.plc_threads.proofs.Moves.{taken_so}
+use Rattle.plc_moves.specs.Standing.{step_of}
+use Rattle.plc_moves.proofs.Moves.{taken_so}
 use Rattle.plc_run.specs.Reach.{Reached, answer, Reaches}
 use Rattle.plc_run.specs.Run.{point_of}
 use Rattle.plc_run.specs.Position.{Position}

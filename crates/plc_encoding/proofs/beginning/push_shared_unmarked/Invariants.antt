@@ -1,0 +1,9 @@
+use Rattle.std.proofs.Common.{◌≡◌, map}
+use Rattle.plc_ground.specs.declared.terms.Symbol.TheVariants as symbols
+use Rattle.plc_symbolic.specs.Numbering.{written_all}
+use Rattle.plc_vocabulary.specs.Setting.{below}
+use Rattle.plc_encoding.specs.Items.{unmarked}
+use Rattle.plc_encoding.proofs.beginning.push_shared_unmarked.Given as goal
+
+abbrev pub invariant-loop-i : goal.invariant-loop-i
+invariant-loop-i l = l.out ≡ written_all l.initial.out (map (λ i. unmarked (symbols.Shared i)) (below l.i))

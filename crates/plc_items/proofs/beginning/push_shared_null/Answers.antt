@@ -1,9 +1,0 @@
-use Rattle.plc_ground.specs.declared.terms.Symbol.TheVariants as symbols
-use Rattle.plc_items.specs.Items.{equals}
-use Rattle.plc_items.proofs.Written.{one-more-below}
-use Rattle.plc_items.proofs.beginning.push_shared_null.Goals as goal
-
-pub loop-i-preserved : goal.loop-i-preserved
-loop-i-preserved c =
-    one-more-below (λ i. equals (symbols.Shared i) symbols.Null) _ _ _ c.loop-i.i
-    c.in_ok-push_equal.ensures c.loop-i.invariant

@@ -1,8 +1,0 @@
-use Rattle.plc_ground.specs.declared.terms.Symbol.TheVariants as symbols
-use Rattle.plc_items.specs.Items.{unmarked}
-use Rattle.plc_items.proofs.Written.{one-more-below}
-use Rattle.plc_items.proofs.beginning.push_shared_unmarked.Goals as goal
-
-pub loop-i-preserved : goal.loop-i-preserved
-loop-i-preserved c =
-    one-more-below (λ i. unmarked (symbols.Shared i)) _ _ _ c.loop-i.i c.in_ok-push_unmarked.ensures c.loop-i.invariant

@@ -1,7 +1,0 @@
-use Rattle.std.proofs.Common.{◌≡◌, take}
-use Rattle.plc_items.specs.Execution.{current}
-use Rattle.plc_items.proofs.execution.current.Given as goal
-
-abbrev pub invariant-loop-variable : goal.invariant-loop-variable
-invariant-loop-variable l =
-    l.now ≡ current (record l.x { assigned = take l.variable-index l.x.assigned }) l.symbol

@@ -1,5 +1,0 @@
-use Rattle.plc_joint.proofs.Active.{active_words_agree}
-use Rattle.plc_joint.proofs.laws.active_words_agree.Goals as goal
-
-pub returns : goal.returns
-returns c = active_words_agree

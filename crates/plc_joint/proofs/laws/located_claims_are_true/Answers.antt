@@ -1,9 +1,0 @@
-use Rattle.plc_run.proofs.Observed.{observed}
-use Rattle.plc_sound.proofs.Moves.{sound}
-use Rattle.plc_erasure.proofs.Runs.{erasure, true_claims}
-use Rattle.plc_held.proofs.Kept.{held_outlines}
-use Rattle.plc_joint.proofs.Located.{located_claims}
-use Rattle.plc_joint.proofs.laws.located_claims_are_true.Goals as goal
-
-pub returns : goal.returns
-returns c = located_claims sound erasure true_claims held_outlines observed

@@ -1,5 +1,0 @@
-use Rattle.plc_setting.proofs.Ascent.{numbers_fit}
-use Rattle.plc_setting.proofs.laws.numbers_fit.Goals as goal
-
-pub returns : goal.returns
-returns c = numbers_fit

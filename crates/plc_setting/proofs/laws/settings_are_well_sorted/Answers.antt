@@ -1,9 +1,0 @@
-use Rattle.plc_setting.proofs.ActSorts.{acts_fit}
-use Rattle.plc_setting.proofs.NodeSorts.{nodes_fit}
-use Rattle.plc_setting.proofs.laws.settings_are_well_sorted.Goals as goal
-
-pub returns-clause-acts : goal.returns-clause-acts
-returns-clause-acts c = acts_fit
-
-pub returns-clause-nodes : goal.returns-clause-nodes
-returns-clause-nodes c = nodes_fit

@@ -1,7 +1,0 @@
-use Rattle.std.proofs.Common.{◌∙◌}
-use Rattle.plc_ground.specs.declared.terms.Symbol.TheVariants as symbols
-use Rattle.plc_setting.proofs.Runs.{pushed_run}
-use Rattle.plc_setting.proofs.symbols.push_shared.Goals as goal
-
-pub loop-i-preserved : goal.loop-i-preserved
-loop-i-preserved c = c.in_ok-push.ensures.ok ∙ pushed_run symbols.Shared _ _ _ c.loop-i.invariant

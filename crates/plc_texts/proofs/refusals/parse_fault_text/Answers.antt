@@ -1,4 +1,0 @@
-use Rattle.plc_texts.proofs.refusals.parse_fault_text.Goals as goal
-
-pub returns-in-Undeclared : goal.returns-in-Undeclared
-returns-in-Undeclared c = rw c.in-Undeclared.is c.token_text-in-Undeclared.ensures

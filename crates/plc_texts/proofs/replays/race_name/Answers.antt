@@ -1,6 +1,0 @@
-use Rattle.std.proofs.Common.{ap, sym}
-use Rattle.plc_texts.specs.Replays.{race_name}
-use Rattle.plc_texts.proofs.replays.race_name.Goals as goal
-
-pub returns-in-Pass : goal.returns-in-Pass
-returns-in-Pass c = ap race_name (sym c.in-Pass.is)
