@@ -11,7 +11,7 @@ ghost use Rattle.plc_check.specs.Counterexamples.{IsCounterexampleAt, NotedAreKe
 
 use plc_base::NoMemory;
 use plc_ground::{GroundModel, GroundSet};
-use plc_oblig::{Annotated, Grounding, Noted, Obligation, still, untouched};
+use plc_oblig::{AlikeObligations, Annotated, Grounding, Obligation, still, untouched};
 use plc_solve::find_model;
 
 /// An obligation that isn't kept, with its ground set and a model of it.
@@ -26,7 +26,7 @@ pub struct Counterexample {
 
 /// Whether the obligation is known to be kept before its set is made: it is still, or one that is alike was found to be
 /// kept, which has the same set.
-fn is_known_kept(program: &Annotated<'_>, kept: &Noted, o: &Obligation) -> bool
+fn is_known_kept(program: &Annotated<'_>, kept: &AlikeObligations, o: &Obligation) -> bool
     requires fits { ProgramFits program.now }
     requires there { Contains (obligations_of program.now) o.now }
     requires kept { NotedAreKept program.now.flow.now program.now.outline.now kept.now }
@@ -69,7 +69,7 @@ fn broken_at(
 pub(crate) fn counterexample_at(
     memory: &mut Grounding,
     program: &Annotated<'_>,
-    kept: &mut Noted,
+    kept: &mut AlikeObligations,
     obligation: Obligation,
 ) -> Result<Option<Counterexample>, NoMemory>
     requires fits { ProgramFits program.now }

@@ -10,7 +10,7 @@ ghost use Rattle.plc_check.specs.Open.{AreOpen};
 use crate::counterexample::{Counterexample, counterexample_at};
 use crate::judged::Judged;
 use plc_base::{Items, NoMemory};
-use plc_oblig::{Annotated, Grounding, Noted, Walk, annotate};
+use plc_oblig::{AlikeObligations, Annotated, Grounding, Walk, annotate};
 use std::alloc::Global;
 
 /// What breaks an outline, obligation by obligation.
@@ -27,7 +27,7 @@ pub struct OpenObligations {
 fn find_on_walk(
     memory: &mut Grounding,
     program: &Annotated<'_>,
-    kept: &mut Noted,
+    kept: &mut AlikeObligations,
     walk: &mut Walk<'_>,
     most: usize,
     found: &mut Items<Counterexample>,
@@ -67,7 +67,7 @@ pub fn open_obligations(
     let program = annotate(&judged.flow, &judged.unit_outline);
     let mut walk = Walk::new(alloc, &judged.flow, &judged.unit_outline)?;
     let mut memory = Grounding::new(alloc);
-    let mut kept = Noted::new(alloc);
+    let mut kept = AlikeObligations::new(alloc);
     let mut found = Items::new(alloc);
     let all = find_on_walk(
         &mut memory,

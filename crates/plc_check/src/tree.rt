@@ -10,7 +10,7 @@ use crate::counterexample::Counterexample;
 use crate::judged::Judged;
 use plc_base::{Items, NoMemory};
 use plc_ground::Tree;
-use plc_oblig::{Annotated, Grounding, Noted, Obligation, Walk, annotate};
+use plc_oblig::{AlikeObligations, Annotated, Grounding, Obligation, Walk, annotate};
 use plc_solve::{Answer, refute};
 use std::alloc::Global;
 
@@ -88,7 +88,7 @@ fn copy_of(alloc: Global, trees: &[Tree], at: usize) -> Result<Tree, NoMemory>
 fn tree_at(
     memory: &mut Grounding,
     program: &Annotated<'_>,
-    noted: &mut Noted,
+    noted: &mut AlikeObligations,
     trees: &[Tree],
     obligation: Obligation,
 ) -> Result<Shown, NoMemory>
@@ -114,7 +114,7 @@ fn tree_at(
 fn trees_on_walk(
     memory: &mut Grounding,
     program: &Annotated<'_>,
-    noted: &mut Noted,
+    noted: &mut AlikeObligations,
     walk: &mut Walk<'_>,
 ) -> Result<AllShown, NoMemory>
     requires fits { ProgramFits program.now }
@@ -141,7 +141,7 @@ pub(crate) fn trees_of(alloc: Global, judged: &Judged) -> Result<AllShown, NoMem
     let program = annotate(&judged.flow, &judged.unit_outline);
     let mut walk = Walk::new(alloc, &judged.flow, &judged.unit_outline)?;
     let mut memory = Grounding::new(alloc);
-    let mut noted = Noted::new(alloc);
+    let mut noted = AlikeObligations::new(alloc);
     let trees = trees_on_walk(&mut memory, &program, &mut noted, &mut walk);
     drop(walk);
     drop(memory);

@@ -13,7 +13,7 @@ use std::alloc::{AllocError, Global};
 
 /// The status of `run` under these four. Each of them is a parameter, since it becomes a value of the trait in the call
 /// that hands it on, and what it acts as is known of its own type alone.
-fn run_under<F: Files, S: Sink>(
+fn run_with<F: Files, S: Sink>(
     alloc: Global,
     words: &[String],
     files: &mut F,
@@ -41,7 +41,7 @@ fn run_under<F: Files, S: Sink>(
 }
 
 /// `run` with plc's own reclaimers, where there is memory for the four.
-fn run_made<F: Files, S: Sink>(
+fn allocate_reclaimers<F: Files, S: Sink>(
     alloc: Global,
     words: &[String],
     files: &mut F,
@@ -56,7 +56,7 @@ fn run_made<F: Files, S: Sink>(
     let list = Box::new(alloc, ByList::new(alloc))?;
     let hazard = Box::new(alloc, Hazard::new(alloc))?;
     let epoch = Box::new(alloc, Epoch::new(alloc))?;
-    run_under(alloc, words, files, out, leak, list, hazard, epoch)
+    run_with(alloc, words, files, out, leak, list, hazard, epoch)
 }
 
 /// `run` with the reclaimers of the program: `leak`, `list`, `hazard` and `epoch`, in this order, each of
@@ -70,7 +70,7 @@ pub fn run_with_own<F: Files, S: Sink>(
     ensures { IsProgram (map string_bytes words.now)
         (F.known files.old) (F.known files.new) (S.known out.old) (S.known out.new) result }
 {
-    match run_made(alloc, words, files, out) {
+    match allocate_reclaimers(alloc, words, files, out) {
         Ok(status) => status,
         Err(AllocError) => NO_MEMORY,
     }

@@ -98,13 +98,13 @@ pub fn alike_obligations_have_one_set()
 /// clauses of the point were noted in their order, that is the entry of this clause. Where one was left out, as a still
 /// one may be, those after it stand nearer to the first, and may not be found.
 #[derive(Drop)]
-pub struct Noted {
+pub struct AlikeObligations {
     entries: Vec<(Obligation, usize)>,
     /// At which entry each point begins.
     starts: Vec<usize>,
 }
 
-impl Model for Noted {
+impl Model for AlikeObligations {
     ghost use Rattle.std.specs.Prelude.{List, ℕ};
     ghost use Rattle.plc_vocabulary.specs.declared.obligations.Obligation.{Obligation};
 
@@ -133,12 +133,12 @@ fn last_of(starts: &[usize]) -> &[usize] {
     starts
 }
 
-impl Noted {
+impl AlikeObligations {
     /// None. It takes no memory.
-    pub fn new(alloc: Global) -> Noted
+    pub fn new(alloc: Global) -> AlikeObligations
         ensures { result ≡ [] }
     {
-        Noted {
+        AlikeObligations {
             entries: Vec::new(alloc),
             starts: Vec::new(alloc),
         }

@@ -20,7 +20,7 @@ mod touching;
 mod trees;
 mod walk;
 
-pub use alike::{Noted, alike_obligations_have_one_set};
+pub use alike::{AlikeObligations, alike_obligations_have_one_set};
 pub use annotated::{Annotated, annotate};
 pub use counting::count;
 pub use excess::has_large_set;

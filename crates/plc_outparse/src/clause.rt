@@ -16,14 +16,14 @@ use crate::term::literal;
 use plc_base::{Items, MOST_BOUND, Names, What1};
 use plc_lang::Local;
 use plc_logic::{Clause, Literal};
-use plc_scope::{Meaning, ParseFault, Scope, add_name};
+use plc_scope::{ParseFault, Resolved, Scope, add_name};
 use plc_syntax::{Bound as BoundForm, Literal as LiteralForm, Name, Placed};
 use plc_tree::Clause as ClauseForm;
 use std::alloc::Global;
 
 /// A quantified name, which differs from those before and from all names in reach.
-#[tactic(auto, unfolding(crate::specs::Meaning::bound_with))]
-fn bind(scope: &Scope, locals: &[Local], bound: &mut Names, name: Name) -> Meaning<()>
+#[tactic(auto, unfolding(crate::specs::Resolved::bound_with))]
+fn bind(scope: &Scope, locals: &[Local], bound: &mut Names, name: Name) -> Resolved<()>
     requires locals { length locals.now ≤ most_locals }
     requires room { length bound.old.names < bound.old.limit }
     ensures read { Gives (λ _. bound.new) result (bound_with scope.now locals.now bound.old (name_tree name.entry)) }
@@ -40,8 +40,8 @@ fn bind(scope: &Scope, locals: &[Local], bound: &mut Names, name: Name) -> Meani
 }
 
 /// The quantified names of a clause, put where there is none yet.
-#[tactic(auto, unfolding(crate::specs::Meaning::bound_means))]
-fn bind_all(scope: &Scope, locals: &[Local], bound: &mut Names, form: BoundForm) -> Meaning<()>
+#[tactic(auto, unfolding(crate::specs::Resolved::bound_means))]
+fn bind_all(scope: &Scope, locals: &[Local], bound: &mut Names, form: BoundForm) -> Resolved<()>
     requires locals { length locals.now ≤ most_locals }
     requires none { bound.old ≡ none_bound }
     ensures { Gives (λ _. bound.new) result (bound_means scope.now locals.now (bound_tree form.entry)) }
@@ -60,7 +60,7 @@ fn bind_all(scope: &Scope, locals: &[Local], bound: &mut Names, form: BoundForm)
 
 /// A literal at a place, with so many before it. The limit's place is the literal's first token, so a fault
 /// of that token goes before it.
-fn counted(count: usize, at: u32, meaning: Meaning<Literal>) -> Meaning<Literal>
+fn counted(count: usize, at: u32, meaning: Resolved<Literal>) -> Resolved<Literal>
     ensures { (said : Result Literal ParseFault) → Gives (λ l. l) meaning said
         → Gives (λ l. l) result (counted count at said) }
 {
@@ -73,12 +73,12 @@ fn counted(count: usize, at: u32, meaning: Meaning<Literal>) -> Meaning<Literal>
 }
 
 /// A further literal.
-#[tactic(auto, unfolding(crate::specs::Meaning::literal_step))]
+#[tactic(auto, unfolding(crate::specs::Resolved::literal_step))]
 fn add_literal(
     reach: &Reach,
     literals: &mut Items<Literal>,
     form: Placed<LiteralForm>,
-) -> Meaning<()>
+) -> Resolved<()>
     requires { length reach.now.locals.now ≤ most_locals }
     ensures { Gives (λ _. literals.new) result
         (literal_step (reach_of reach.now) literals.old (placed_as literal_tree form.entry)) }
@@ -93,7 +93,7 @@ fn add_literals(
     reach: &Reach,
     literals: &mut Items<Literal>,
     others: &[Placed<LiteralForm>],
-) -> Meaning<()>
+) -> Resolved<()>
     requires { length reach.now.locals.now ≤ most_locals }
     ensures { Gives (λ _. literals.new) result
         (in_turn (literal_step (reach_of reach.now)) literals.old (map (placed_as literal_tree) others.now)) }
@@ -105,14 +105,14 @@ fn add_literals(
 }
 
 /// The quantified names of a clause and its literals, put into a clause that has none yet.
-#[tactic(auto, unfolding(crate::specs::Meaning::clause_means))]
+#[tactic(auto, unfolding(crate::specs::Resolved::clause_means))]
 fn add_all(
     scope: &Scope,
     locals: &[Local],
     in_operation: bool,
     clause: &mut Clause,
     form: &ClauseForm,
-) -> Meaning<()>
+) -> Resolved<()>
     requires locals { length locals.now ≤ most_locals }
     requires bound { clause.old.bound ≡ none_bound }
     requires literals { clause.old.literals ≡ [] }
@@ -137,7 +137,7 @@ pub fn clause(
     locals: &[Local],
     in_operation: bool,
     form: &ClauseForm,
-) -> Meaning<Clause>
+) -> Resolved<Clause>
     requires { length locals.now ≤ most_locals }
     ensures { Gives (λ c. c) result
         (clause_means scope.now locals.now in_operation (clause_tree form.now)) }

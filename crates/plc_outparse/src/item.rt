@@ -16,7 +16,7 @@ use crate::site::{labels, op_at};
 use plc_base::{Items, OpId, What1};
 use plc_lang::locals_of;
 use plc_logic::{Clause, Item, Site};
-use plc_scope::{Meaning, ParseFault, Scope};
+use plc_scope::{ParseFault, Resolved, Scope};
 use plc_tree::{Clause as ClauseForm, Item as ItemForm};
 use std::alloc::Global;
 
@@ -28,8 +28,8 @@ pub struct Parts {
 }
 
 /// An invariant.
-#[tactic(auto, unfolding(crate::specs::Meaning::item_step))]
-fn add_invariant(alloc: Global, scope: &Scope, parts: &mut Parts, form: &ClauseForm) -> Meaning<()>
+#[tactic(auto, unfolding(crate::specs::Resolved::item_step))]
+fn add_invariant(alloc: Global, scope: &Scope, parts: &mut Parts, form: &ClauseForm) -> Resolved<()>
     ensures { (ops : List Op) (by_op : List (List ℕ)) → Gives (λ _. parts_of parts.new) result
         (item_step scope.now ops by_op (parts_of parts.old) (InvariantItem (clause_tree form.now))) }
 {
@@ -42,7 +42,7 @@ fn add_invariant(alloc: Global, scope: &Scope, parts: &mut Parts, form: &ClauseF
 }
 
 /// The clause of an item whose site stands in the operation.
-fn clause_in(alloc: Global, context: &Context, op: usize, form: &ClauseForm) -> Meaning<Clause>
+fn clause_in(alloc: Global, context: &Context, op: usize, form: &ClauseForm) -> Resolved<Clause>
     requires { IsWithinLimits context.now }
     ensures { Gives (λ c. c) result
         (clause_means context.now.scope.now (locals_of context.now.ops.now op) true (clause_tree form.now)) }
@@ -51,8 +51,8 @@ fn clause_in(alloc: Global, context: &Context, op: usize, form: &ClauseForm) -> 
 }
 
 /// An item.
-#[tactic(auto, unfolding(crate::specs::Meaning::item_step))]
-fn add_item(alloc: Global, context: &Context, parts: &mut Parts, form: &ItemForm) -> Meaning<()>
+#[tactic(auto, unfolding(crate::specs::Resolved::item_step))]
+fn add_item(alloc: Global, context: &Context, parts: &mut Parts, form: &ItemForm) -> Resolved<()>
     requires { IsWithinLimits context.now }
     ensures { Gives (λ _. parts_of parts.new) result
         (item_step context.now.scope.now context.now.ops.now context.now.by_op.now (parts_of parts.old)
@@ -90,7 +90,7 @@ pub fn add_items(
     context: &Context,
     parts: &mut Parts,
     items: &[ItemForm],
-) -> Meaning<()>
+) -> Resolved<()>
     requires { IsWithinLimits context.now }
     ensures { Gives (λ _. parts_of parts.new) result
         (in_turn (item_step context.now.scope.now context.now.ops.now context.now.by_op.now)

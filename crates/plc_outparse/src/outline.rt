@@ -16,13 +16,13 @@ use crate::item::{Parts, add_items};
 use plc_base::Items;
 use plc_lang::{Op, labels_by_op};
 use plc_logic::Outline;
-use plc_scope::{Meaning, ParseFault, Scope};
+use plc_scope::{ParseFault, Resolved, Scope};
 use plc_syntax::{Fault, Placed, Rest};
 use plc_tree::{Outline as OutlineForm, outline_tree};
 use std::alloc::Global;
 
 /// The depth.
-fn depth(number: Option<Placed<u32>>) -> Meaning<u8>
+fn depth(number: Option<Placed<u32>>) -> Resolved<u8>
     ensures { Gives (λ depth. depth) result (depth_means (number_or_none number)) }
 {
     let Some(number) = number else {
@@ -36,8 +36,8 @@ fn depth(number: Option<Placed<u32>>) -> Meaning<u8>
 }
 
 /// The outline of a tree, once the labels of each operation are known.
-#[tactic(auto, unfolding(crate::specs::Meaning::outline_means))]
-fn outline(alloc: Global, context: &Context, form: &OutlineForm) -> Meaning<Outline>
+#[tactic(auto, unfolding(crate::specs::Resolved::outline_means))]
+fn outline(alloc: Global, context: &Context, form: &OutlineForm) -> Resolved<Outline>
     requires limits { IsWithinLimits context.now }
     requires labels { context.now.by_op.now ≡ labels_by_op context.now.ops.now }
     ensures { Gives (λ o. o) result
@@ -66,7 +66,7 @@ pub fn outline_meaning(
     scope: &Scope,
     ops: &[Op],
     form: &OutlineForm,
-) -> Meaning<Outline>
+) -> Resolved<Outline>
     requires labels { HasFewLabels scope.now }
     requires ops { OpsFit ops.now }
     ensures { Gives (λ o. o) result (outline_means scope.now ops.now (outline_tree form.now)) }

@@ -11,7 +11,7 @@ use crate::kind::Kind;
 use plc_base::Names;
 use plc_lang::Local;
 use plc_logic::{Base, Sort};
-use plc_scope::{Binding, Found, Meaning, ParseFault, Scope};
+use plc_scope::{Binding, Found, ParseFault, Resolved, Scope};
 use plc_syntax::Name;
 
 /// What is in reach in a clause.
@@ -57,7 +57,7 @@ pub fn declared_kind(scope: &Scope, locals: &[Local], name: &[u8]) -> Option<Kin
 }
 
 /// What a name is that isn't quantified. `Undeclared` where it has no declaration in reach.
-pub fn known(scope: &Scope, locals: &[Local], name: Name) -> Meaning<Kind>
+pub fn known(scope: &Scope, locals: &[Local], name: Name) -> Resolved<Kind>
     requires { length locals.now ≤ most_locals }
     ensures { Gives (λ kind. kind) result
         (known name.entry.at (declared_kind scope.now locals.now name.entry.value.now)) }
@@ -67,7 +67,7 @@ pub fn known(scope: &Scope, locals: &[Local], name: Name) -> Meaning<Kind>
 
 /// What a name in a clause is. `Undeclared` where it has no declaration in reach.
 #[tactic(auto, unfolding(crate::specs::Reach::kind_of))]
-pub fn kind_at(reach: &Reach, name: Name) -> Meaning<Kind>
+pub fn kind_at(reach: &Reach, name: Name) -> Resolved<Kind>
     requires { length reach.now.locals.now ≤ most_locals }
     ensures { Gives (λ kind. kind) result (kind_at (reach_of reach.now) (name_tree name.entry)) }
 {
@@ -79,7 +79,7 @@ pub fn kind_at(reach: &Reach, name: Name) -> Meaning<Kind>
 
 /// The base of a field that a name is; `Undeclared`, or `WrongSort` for another thing.
 #[tactic(auto, unfolding(crate::specs::Reach::base_at))]
-pub fn base_at(reach: &Reach, name: Name) -> Meaning<Base>
+pub fn base_at(reach: &Reach, name: Name) -> Resolved<Base>
     requires { length reach.now.locals.now ≤ most_locals }
     ensures { Gives (λ base. base) result (base_at (reach_of reach.now) (name_tree name.entry)) }
 {

@@ -13,7 +13,7 @@ use crate::context::Context;
 use crate::reach::known;
 use plc_base::Items;
 use plc_lang::{Op, op_of_label};
-use plc_scope::{Meaning, ParseFault, Scope};
+use plc_scope::{ParseFault, Resolved, Scope};
 use plc_syntax::Name;
 use std::alloc::Global;
 
@@ -32,8 +32,8 @@ fn op_named(scope: &Scope, ops: &[Op], name: &[u8]) -> Option<u16>
 }
 
 /// The operation that a name is; `Undeclared`, or `WrongSort` for another thing.
-#[tactic(auto, unfolding(crate::specs::Meaning::op_at))]
-pub fn op_at(context: &Context, name: Name) -> Meaning<u16>
+#[tactic(auto, unfolding(crate::specs::Resolved::op_at))]
+pub fn op_at(context: &Context, name: Name) -> Resolved<u16>
     requires { IsWithinLimits context.now }
     ensures { Gives (λ op. op) result (op_at context.now.scope.now context.now.ops.now (name_tree name.entry)) }
 {
@@ -57,8 +57,8 @@ fn label_named(scope: &Scope, name: &[u8]) -> Option<u16>
 }
 
 /// The label that a name is, and its operation. `Undeclared` and `WrongSort` where it is none.
-#[tactic(auto, unfolding(crate::specs::Meaning::label_at))]
-fn label_at(context: &Context, name: Name) -> Meaning<(u16, usize)>
+#[tactic(auto, unfolding(crate::specs::Resolved::label_at))]
+fn label_at(context: &Context, name: Name) -> Resolved<(u16, usize)>
     requires { IsWithinLimits context.now }
     ensures { Gives (λ r. (r.0, r.1)) result
         (label_at context.now.scope.now context.now.by_op.now (name_tree name.entry)) }
@@ -72,8 +72,8 @@ fn label_at(context: &Context, name: Name) -> Meaning<(u16, usize)>
 }
 
 /// A further label. `WrongSort` where it stands in another operation.
-#[tactic(auto, unfolding(crate::specs::Meaning::label_step))]
-fn add_label(context: &Context, op: usize, labels: &mut Items<u16>, name: Name) -> Meaning<()>
+#[tactic(auto, unfolding(crate::specs::Resolved::label_step))]
+fn add_label(context: &Context, op: usize, labels: &mut Items<u16>, name: Name) -> Resolved<()>
     requires { IsWithinLimits context.now }
     ensures { Gives (λ _. labels.new) result
         (label_step context.now.scope.now context.now.by_op.now op labels.old (name_tree name.entry)) }
@@ -87,7 +87,7 @@ fn add_label(context: &Context, op: usize, labels: &mut Items<u16>, name: Name) 
 }
 
 /// The labels after the first.
-fn add_labels(context: &Context, op: usize, labels: &mut Items<u16>, names: &[Name]) -> Meaning<()>
+fn add_labels(context: &Context, op: usize, labels: &mut Items<u16>, names: &[Name]) -> Resolved<()>
     requires { IsWithinLimits context.now }
     ensures { Gives (λ _. labels.new) result
         (in_turn (label_step context.now.scope.now context.now.by_op.now op) labels.old (map name_tree names.now)) }
@@ -99,13 +99,13 @@ fn add_labels(context: &Context, op: usize, labels: &mut Items<u16>, names: &[Na
 }
 
 /// Labels, with the operation in which all of them stand.
-#[tactic(auto, unfolding(crate::specs::Meaning::labels_mean))]
+#[tactic(auto, unfolding(crate::specs::Resolved::labels_mean))]
 pub fn labels(
     alloc: Global,
     context: &Context,
     name: Name,
     others: &[Name],
-) -> Meaning<(Items<u16>, usize)>
+) -> Resolved<(Items<u16>, usize)>
     requires { IsWithinLimits context.now }
     ensures { Gives (λ r. (r.0, r.1)) result (labels_mean context.now.scope.now context.now.by_op.now
         (name_tree name.entry) (map name_tree others.now)) }

@@ -12,7 +12,7 @@ ghost use Rattle.plc_outparse.specs.Views.{reach_of};
 use crate::kind::Kind;
 use crate::reach::{Reach, base_at, kind_at};
 use plc_logic::{Base, Literal, Sort, Term};
-use plc_scope::{Meaning, ParseFault};
+use plc_scope::{ParseFault, Resolved};
 use plc_syntax::{Flag as FlagForm, Literal as LiteralForm, Place, Term as TermForm};
 
 /// The term that a name alone is.
@@ -41,7 +41,7 @@ fn as_field(base: Base, kind: Kind) -> Option<(Term, Sort)>
 }
 
 /// A name, or a field of one, as a term with its sort.
-fn place(reach: &Reach, place: Place) -> Meaning<(Term, Sort)>
+fn place(reach: &Reach, place: Place) -> Resolved<(Term, Sort)>
     requires { length reach.now.locals.now ≤ most_locals }
     ensures { Gives (λ r. (r.0, r.1)) result
         (wanted_of (reach_of reach.now) as_term as_field (place_tree place.entry)) }
@@ -57,8 +57,8 @@ fn place(reach: &Reach, place: Place) -> Meaning<(Term, Sort)>
 }
 
 /// A term with its sort. An invariant has no thread that is in an operation.
-#[tactic(auto, unfolding(crate::specs::Meaning::term_means))]
-fn term(reach: &Reach, form: TermForm) -> Meaning<(Term, Sort)>
+#[tactic(auto, unfolding(crate::specs::Resolved::term_means))]
+fn term(reach: &Reach, form: TermForm) -> Resolved<(Term, Sort)>
     requires { length reach.now.locals.now ≤ most_locals }
     ensures { Gives (λ r. (r.0, r.1)) result (term_means (reach_of reach.now) (term_tree form.entry)) }
 {
@@ -85,8 +85,8 @@ fn sort_place(form: TermForm) -> u32
 }
 
 /// The second term of an equation, which has the sort of the first.
-#[tactic(auto, unfolding(crate::specs::Meaning::second_means))]
-fn second(reach: &Reach, sort: Sort, form: TermForm) -> Meaning<Term>
+#[tactic(auto, unfolding(crate::specs::Resolved::second_means))]
+fn second(reach: &Reach, sort: Sort, form: TermForm) -> Resolved<Term>
     requires { length reach.now.locals.now ≤ most_locals }
     ensures { Gives (λ r. r) result (second_means (reach_of reach.now) sort (term_tree form.entry)) }
 {
@@ -120,7 +120,7 @@ fn as_pointer_field(base: Base, kind: Kind) -> Option<Term>
 }
 
 /// A place that holds a pointer, and so a mark: a shared pointer or a pointer local, or a pointer field.
-fn pointer(reach: &Reach, place: Place) -> Meaning<Term>
+fn pointer(reach: &Reach, place: Place) -> Resolved<Term>
     requires { length reach.now.locals.now ≤ most_locals }
     ensures { Gives (λ t. t) result (pointer_means (reach_of reach.now) (place_tree place.entry)) }
 {
@@ -136,7 +136,7 @@ fn pointer(reach: &Reach, place: Place) -> Meaning<Term>
 }
 
 /// The literal that a flag is so, or is not.
-fn flag(reach: &Reach, yes: bool, form: FlagForm) -> Meaning<Literal>
+fn flag(reach: &Reach, yes: bool, form: FlagForm) -> Resolved<Literal>
     requires { length reach.now.locals.now ≤ most_locals }
     ensures { Gives (λ r. r) result (flag_means (reach_of reach.now) yes (flag_tree form.entry)) }
 {
@@ -154,8 +154,8 @@ fn flag(reach: &Reach, yes: bool, form: FlagForm) -> Meaning<Literal>
 
 /// The literal of a form. `Undeclared` for a name without a declaration in reach, and `WrongSort` for a
 /// term that can't stand there or a second one of another sort than the first.
-#[tactic(auto, unfolding(crate::specs::Meaning::literal_means))]
-pub fn literal(reach: &Reach, form: LiteralForm) -> Meaning<Literal>
+#[tactic(auto, unfolding(crate::specs::Resolved::literal_means))]
+pub fn literal(reach: &Reach, form: LiteralForm) -> Resolved<Literal>
     requires { length reach.now.locals.now ≤ most_locals }
     ensures { Gives (λ r. r) result (literal_means (reach_of reach.now) (literal_tree form.entry)) }
 {

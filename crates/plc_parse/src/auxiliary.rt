@@ -11,13 +11,13 @@ use crate::declaration::declare;
 use crate::lists::Listed;
 use plc_base::{Items, What1};
 use plc_lang::Ghost;
-use plc_scope::{Binding, Meaning, ParseFault, Scope};
+use plc_scope::{Binding, ParseFault, Resolved, Scope};
 use plc_syntax::Name;
 use plc_tree::{Auxiliary, AuxiliaryKind};
 use std::alloc::Global;
 
 /// One value of an auxiliary field, with so many before it; the number of its name.
-fn declare_value(scope: &mut Scope, owner: usize, count: usize, name: Name) -> Meaning<u16>
+fn declare_value(scope: &mut Scope, owner: usize, count: usize, name: Name) -> Resolved<u16>
     requires owner { owner < most What1.Ghosts }
     requires limit { count ≤ most What1.Values }
     requires room { HasRoom scope.old 1 }
@@ -40,7 +40,7 @@ fn declare_values(
     owner: usize,
     first: Name,
     others: &[Name],
-) -> Meaning<Items<u16>>
+) -> Resolved<Items<u16>>
     requires owner { owner < most What1.Ghosts }
     requires room { HasRoom scope.old (most What1.Values + 1) }
     ensures read { Gives (λ values. (values, scope.new)) result
@@ -62,7 +62,7 @@ impl<'a> Listed for Auxiliary<'a> {
 
     ghost kind = { auxiliary_fields };
 
-    fn declare(&self, alloc: Global, scope: &mut Scope, count: usize) -> Meaning<Ghost> {
+    fn declare(&self, alloc: Global, scope: &mut Scope, count: usize) -> Resolved<Ghost> {
         if count == What1::Ghosts.most() as usize {
             return Err(ParseFault::past(What1::Ghosts));
         }

@@ -12,7 +12,7 @@ use crate::lines::line_at;
 use crate::statement::{atomic, call_statement, declare_label, primitive_statement};
 use plc_lang::{Block, Line, Stmt};
 use plc_lex::Token;
-use plc_scope::{Meaning, ParseFault, Scope, condition};
+use plc_scope::{ParseFault, Resolved, Scope, condition};
 use plc_syntax::{Call, Condition};
 use plc_tree::{Block as BlockForm, Stmt as StmtForm};
 use std::alloc::Global;
@@ -30,7 +30,7 @@ pub struct Context<'a> {
 
 /// The second block of an `if`, which is empty where it is left out.
 #[cycle(block)]
-fn else_block(context: Context, scope: &mut Scope, block: &Option<BlockForm>) -> Meaning<Block>
+fn else_block(context: Context, scope: &mut Scope, block: &Option<BlockForm>) -> Resolved<Block>
     requires { CanLabel scope.old }
     ensures { MeansHere (λ b. b)
         (else_means (lines_of context.entry.tokens.now) scope.old context.entry.in_loop (else_tree block.now))
@@ -51,7 +51,7 @@ fn if_statement(
     form: Condition,
     yes: &BlockForm,
     no: &Option<BlockForm>,
-) -> Meaning<Stmt>
+) -> Resolved<Stmt>
     requires { CanLabel scope.old }
     ensures { MeansStatement (lines_of context.entry.tokens.now) context.entry.in_loop at
         (IfStatement (condition_tree form.entry) yes.now (else_tree no.now)) scope.old scope.new result }
@@ -71,7 +71,7 @@ fn choose_statement(
     first: &BlockForm,
     second: &BlockForm,
     others: &[BlockForm],
-) -> Meaning<Stmt>
+) -> Resolved<Stmt>
     requires { CanLabel scope.old }
     ensures { MeansStatement (lines_of context.entry.tokens.now) context.entry.in_loop at
         (ChooseStatement first.now second.now (ors_tree others.now)) scope.old scope.new result }
@@ -90,7 +90,7 @@ fn choose_statement(
 
 /// A statement at a place.
 #[cycle(block)]
-fn statement(context: Context, scope: &mut Scope, at: u32, stmt: &StmtForm) -> Meaning<Stmt>
+fn statement(context: Context, scope: &mut Scope, at: u32, stmt: &StmtForm) -> Resolved<Stmt>
     requires { CanLabel scope.old }
     ensures { MeansStatement (lines_of context.entry.tokens.now) context.entry.in_loop at
         (statement_tree stmt.now) scope.old scope.new result }
@@ -137,7 +137,7 @@ fn statement(context: Context, scope: &mut Scope, at: u32, stmt: &StmtForm) -> M
 
 /// The statements of a block, with their lines.
 #[cycle(block)]
-pub fn statements(context: Context, scope: &mut Scope, block: &BlockForm) -> Meaning<Block>
+pub fn statements(context: Context, scope: &mut Scope, block: &BlockForm) -> Resolved<Block>
     requires { CanLabel scope.old }
     ensures { MeansHere (λ b. b)
         (statements_mean (lines_of context.entry.tokens.now) scope.old context.entry.in_loop block.now)

@@ -9,13 +9,13 @@ ghost use Rattle.plc_parse.specs.Kinds.{fields, shared_pointers, functions};
 use crate::lists::Listed;
 use plc_base::{FieldId, FuncId, What1};
 use plc_lang::{Field, Func};
-use plc_scope::{Binding, Meaning, ParseFault, Scope};
+use plc_scope::{Binding, ParseFault, Resolved, Scope};
 use plc_syntax::{Declaration, Function, Name, Shared};
 use std::alloc::Global;
 
 /// Declares one name, as [`Scope::declare`] does.
 #[tactic(auto, using(crate::proofs::Growth::declared_lists))]
-pub fn declare(scope: &mut Scope, name: Name, binding: Binding) -> Meaning<u16>
+pub fn declare(scope: &mut Scope, name: Name, binding: Binding) -> Resolved<u16>
     requires { HasRoom scope.old 1 }
     ensures number { IfOk result (λ number. number ≡ length scope.old.names.names) }
     ensures read { Gives (λ _. scope.new) result (declared scope.old (name_tree name.entry) binding) }
@@ -31,7 +31,7 @@ impl<'a> Listed for Declaration<'a> {
 
     ghost kind = { fields };
 
-    fn declare(&self, _alloc: Global, scope: &mut Scope, count: usize) -> Meaning<Field> {
+    fn declare(&self, _alloc: Global, scope: &mut Scope, count: usize) -> Resolved<Field> {
         if count == What1::Fields.most() as usize {
             return Err(ParseFault::past(What1::Fields));
         }
@@ -61,7 +61,7 @@ impl<'a> Listed for Shared<'a> {
 
     ghost kind = { shared_pointers };
 
-    fn declare(&self, _alloc: Global, scope: &mut Scope, count: usize) -> Meaning<u16> {
+    fn declare(&self, _alloc: Global, scope: &mut Scope, count: usize) -> Resolved<u16> {
         if count == What1::Shared.most() as usize {
             return Err(ParseFault::past(What1::Shared));
         }
@@ -75,7 +75,7 @@ impl<'a> Listed for Function<'a> {
 
     ghost kind = { functions };
 
-    fn declare(&self, _alloc: Global, scope: &mut Scope, count: usize) -> Meaning<Func> {
+    fn declare(&self, _alloc: Global, scope: &mut Scope, count: usize) -> Resolved<Func> {
         if count == What1::Calls.most() as usize {
             return Err(ParseFault::past(What1::Calls));
         }

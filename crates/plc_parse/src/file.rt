@@ -26,7 +26,7 @@ use plc_lang::{Field, File, Func, Ghost, Op, Prim};
 use plc_lex::Token;
 use plc_logic::Outline;
 use plc_outparse::outline_meaning;
-use plc_scope::{Binding, Meaning, Scope};
+use plc_scope::{Binding, Resolved, Scope};
 use plc_syntax::{Initial, Placed, Watch};
 use plc_tree::{File as FileForm, Heading, Outline as OutlineForm};
 use std::alloc::Global;
@@ -42,7 +42,7 @@ type Declared = (Items<Field>, Items<u16>, Items<Func>);
 
 /// The declarations of a file before those of auxiliary fields.
 #[tactic(auto, unfolding(crate::specs::Parts::declared_mean))]
-fn declarations(alloc: Global, scope: &mut Scope, form: &Heading) -> Meaning<Declared>
+fn declarations(alloc: Global, scope: &mut Scope, form: &Heading) -> Resolved<Declared>
     requires { HasRoom scope.old (most limits.Fields + most limits.Shared + most limits.Calls + 1) }
     ensures read { Gives (λ declared. (declared, scope.new)) result
         (declared_mean scope.old (heading_tree form.now)) }
@@ -56,7 +56,7 @@ fn declarations(alloc: Global, scope: &mut Scope, form: &Heading) -> Meaning<Dec
 }
 
 /// What a file says that is watched: plain where it says nothing.
-fn observer(scope: &Scope, watch: Option<Watch>) -> Meaning<Observer>
+fn observer(scope: &Scope, watch: Option<Watch>) -> Resolved<Observer>
     requires { length scope.now.locals ≤ most_locals }
     ensures { Gives (λ o. o) result (watch_means scope.now (watched_tree watch.entry)) }
 {
@@ -76,7 +76,7 @@ fn init_primitives(
     alloc: Global,
     scope: &Scope,
     form: &Option<Items<Placed<Initial>>>,
-) -> Meaning<Items<Prim>>
+) -> Resolved<Items<Prim>>
     requires { length scope.now.locals ≤ most_locals }
     ensures { Gives (λ primitives. primitives) result (init_means scope.now (starts_tree form.now)) }
 {
@@ -87,7 +87,7 @@ fn init_primitives(
 }
 
 /// The functions of a file: `retire`, and then those that it declares.
-fn with_retire(functions: Items<Func>) -> Meaning<Items<Func>>
+fn with_retire(functions: Items<Func>) -> Resolved<Items<Func>>
     ensures { Gives (λ all. all) result (Ok (retire ∷ functions)) }
 {
     let mut all = functions.into_vec();
@@ -101,7 +101,7 @@ fn outline_or_empty(
     scope: &Scope,
     ops: &[Op],
     form: &Option<OutlineForm>,
-) -> Meaning<Outline>
+) -> Resolved<Outline>
     requires labels { length scope.now.labels ≤ most_labels }
     requires ops { OpsFit ops.now }
     ensures { Gives (λ outline. outline) result (outlined_means scope.now ops.now (outlined_tree form.now)) }
@@ -131,7 +131,7 @@ struct Front {
 
 /// What stands before the operations, after the struct's name.
 #[tactic(auto, unfolding(crate::specs::Parts::front_means))]
-fn before_operations(alloc: Global, scope: &mut Scope, form: &Heading) -> Meaning<Front>
+fn before_operations(alloc: Global, scope: &mut Scope, form: &Heading) -> Resolved<Front>
     requires room { HasRoom scope.old (front_names + ghost_names) }
     requires locals { scope.old.locals ≡ [] }
     ensures read { Gives (λ front. (front_of front, scope.new)) result
@@ -159,7 +159,7 @@ fn operations_and_outline(
     scope: &mut Scope,
     tokens: &[Token],
     form: &FileForm,
-) -> Meaning<(Items<Op>, Outline)>
+) -> Resolved<(Items<Op>, Outline)>
     requires room { HasRoom scope.old (op_names * (most limits.Ops + 1) + most_labels + 1) }
     requires locals { scope.old.locals ≡ [] }
     requires labels { scope.old.labels ≡ [] }
@@ -172,7 +172,7 @@ fn operations_and_outline(
 }
 
 /// The unit of these parts, with the names and labels in reach at its end.
-fn unit(scope: Scope, front: Front, ops: Items<Op>, outline: Outline) -> Meaning<Unit>
+fn unit(scope: Scope, front: Front, ops: Items<Op>, outline: Outline) -> Resolved<Unit>
     ensures { Gives (λ unit. unit) result (Ok (unit_from (front_of front) (ops, outline, scope))) }
 {
     let (fields, shared, functions) = front.declared;
@@ -201,7 +201,7 @@ fn parts(
     scope: &mut Scope,
     tokens: &[Token],
     form: &FileForm,
-) -> Meaning<(Front, Items<Op>, Outline)>
+) -> Resolved<(Front, Items<Op>, Outline)>
     requires room { HasRoom scope.old (most_names - 2) }
     requires locals { scope.old.locals ≡ [] }
     requires labels { scope.old.labels ≡ [] }
@@ -216,8 +216,8 @@ fn parts(
 }
 
 /// The unit that a file's tree means, with the lines of its tokens.
-#[tactic(auto, unfolding(crate::specs::Meaning::file_means))]
-pub fn file_unit(alloc: Global, tokens: &[Token], form: &FileForm) -> Meaning<Unit>
+#[tactic(auto, unfolding(crate::specs::Resolved::file_means))]
+pub fn file_unit(alloc: Global, tokens: &[Token], form: &FileForm) -> Resolved<Unit>
     ensures { Gives (λ unit. unit) result (file_means (lines_of tokens.now) (file_tree form.now)) }
 {
     let mut scope = Scope::new(alloc)?;

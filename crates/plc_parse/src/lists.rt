@@ -6,7 +6,7 @@ ghost use Rattle.plc_parse.specs.Growth.{AddsNames};
 ghost use Rattle.plc_parse.specs.Meaning.{listed};
 
 use plc_base::Items;
-use plc_scope::{Meaning, Scope};
+use plc_scope::{Resolved, Scope};
 use std::alloc::Global;
 
 /// A form that is declared among others of its kind.
@@ -22,7 +22,7 @@ pub trait Listed: Sized {
     ghost kind: { Kind Self Self.Item };
 
     /// Declares what has so many before it.
-    fn declare(&self, alloc: Global, scope: &mut Scope, count: usize) -> Meaning<Self::Item>
+    fn declare(&self, alloc: Global, scope: &mut Scope, count: usize) -> Resolved<Self::Item>
         requires few { count ≤ kind.limit }
         requires room { HasRoom scope.old kind.names }
         ensures few { IfOk result (λ _. count < kind.limit) }
@@ -35,7 +35,7 @@ pub fn declare_all<L: Listed>(
     alloc: Global,
     scope: &mut Scope,
     forms: &[L],
-) -> Meaning<Items<L::Item>>
+) -> Resolved<Items<L::Item>>
     requires { HasRoom scope.old (L.kind.names * (L.kind.limit + 1)) }
     ensures read { Gives (λ items. (items, scope.new)) result
         (listed L.kind.means scope.old 0 (map L.kind.tree forms.now)) }

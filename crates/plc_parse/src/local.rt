@@ -8,13 +8,13 @@ ghost use Rattle.plc_parse.specs.Meaning.{local_means};
 ghost use Rattle.plc_outparse.specs.Meaning.{in_turn};
 ghost use Rattle.plc_parse.specs.Views.{DeclaresLocals};
 
-use plc_scope::{Meaning, Scope};
+use plc_scope::{Resolved, Scope};
 use plc_syntax::{Declaration, Name};
 use plc_tree::Parameters;
 
 /// Declares one parameter.
 #[tactic(auto, using(crate::proofs::Growth::parameter_labels))]
-fn declare_parameter(scope: &mut Scope, name: Name) -> Meaning<()>
+fn declare_parameter(scope: &mut Scope, name: Name) -> Resolved<()>
     requires { HasRoomForLocals scope.old }
     ensures read { Gives (λ _. scope.new) result (declared_parameter scope.old (name_tree name.entry)) }
     ensures names { IfOk result (λ _. GrowsByLocals scope.old scope.new) }
@@ -24,7 +24,7 @@ fn declare_parameter(scope: &mut Scope, name: Name) -> Meaning<()>
 }
 
 /// Declares parameters in order.
-fn declare_names(scope: &mut Scope, names: &[Name]) -> Meaning<()>
+fn declare_names(scope: &mut Scope, names: &[Name]) -> Resolved<()>
     requires { HasRoomForLocals scope.old }
     ensures { DeclaresLocals (in_turn declared_parameter scope.old (map name_tree names.now)) scope.old scope.new
         result }
@@ -36,7 +36,7 @@ fn declare_names(scope: &mut Scope, names: &[Name]) -> Meaning<()>
 }
 
 /// Declares the parameters, of which there may be none.
-pub fn declare_parameters(scope: &mut Scope, parameters: &Parameters) -> Meaning<()>
+pub fn declare_parameters(scope: &mut Scope, parameters: &Parameters) -> Resolved<()>
     requires { HasRoomForLocals scope.old }
     ensures { DeclaresLocals (in_turn declared_parameter scope.old (parameters_names parameters.now))
         scope.old scope.new result }
@@ -52,7 +52,7 @@ pub fn declare_parameters(scope: &mut Scope, parameters: &Parameters) -> Meaning
 
 /// Declares one local that is no parameter.
 #[tactic(auto, using(crate::proofs::Growth::local_labels))]
-fn declare_name(scope: &mut Scope, name: Name, pointer: bool) -> Meaning<()>
+fn declare_name(scope: &mut Scope, name: Name, pointer: bool) -> Resolved<()>
     requires { HasRoomForLocals scope.old }
     ensures read { Gives (λ _. scope.new) result (declared_local scope.old (name_tree name.entry) pointer) }
     ensures names { IfOk result (λ _. GrowsByLocals scope.old scope.new) }
@@ -62,7 +62,7 @@ fn declare_name(scope: &mut Scope, name: Name, pointer: bool) -> Meaning<()>
 }
 
 /// Declares the local of a declaration.
-fn declare_local(scope: &mut Scope, declaration: Declaration) -> Meaning<()>
+fn declare_local(scope: &mut Scope, declaration: Declaration) -> Resolved<()>
     requires { HasRoomForLocals scope.old }
     ensures { DeclaresLocals (local_means scope.old (field_tree declaration.entry)) scope.old scope.new result }
 {
@@ -73,7 +73,7 @@ fn declare_local(scope: &mut Scope, declaration: Declaration) -> Meaning<()>
 }
 
 /// Declares the locals that are no parameters.
-pub fn declare_locals(scope: &mut Scope, locals: &[Declaration]) -> Meaning<()>
+pub fn declare_locals(scope: &mut Scope, locals: &[Declaration]) -> Resolved<()>
     requires { HasRoomForLocals scope.old }
     ensures { DeclaresLocals (in_turn local_means scope.old (map field_tree locals.now)) scope.old scope.new result }
 {

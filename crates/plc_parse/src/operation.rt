@@ -17,13 +17,13 @@ use crate::local::{declare_locals, declare_parameters};
 use plc_base::{Items, What1};
 use plc_lang::Op;
 use plc_lex::Token;
-use plc_scope::{Binding, Meaning, ParseFault, Scope};
+use plc_scope::{Binding, ParseFault, Resolved, Scope};
 use plc_syntax::Placed;
 use plc_tree::Operation;
 use std::alloc::Global;
 
 /// An operation on a line, with so many before it.
-#[tactic(auto, unfolding(crate::specs::Meaning::op_means))]
+#[tactic(auto, unfolding(crate::specs::Resolved::op_means))]
 fn operation(
     alloc: Global,
     scope: &mut Scope,
@@ -31,7 +31,7 @@ fn operation(
     count: usize,
     line: u32,
     form: &Operation,
-) -> Meaning<Op>
+) -> Resolved<Op>
     requires limit { count ≤ most What1.Ops }
     requires room { CanOperate scope.old }
     ensures limit { IfOk result (λ _. count < most What1.Ops) }
@@ -66,7 +66,7 @@ pub fn operations(
     scope: &mut Scope,
     tokens: &[Token],
     forms: &[Placed<Operation>],
-) -> Meaning<Items<Op>>
+) -> Resolved<Items<Op>>
     requires room { HasRoom scope.old (op_names * (most What1.Ops + 1) + most_labels + 1) }
     requires locals { scope.old.locals ≡ [] }
     requires labels { scope.old.labels ≡ [] }

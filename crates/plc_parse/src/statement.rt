@@ -10,13 +10,13 @@ ghost use Rattle.plc_parse.specs.Views.{MeansStatement};
 use crate::step::step_of;
 use plc_base::What1;
 use plc_lang::Stmt;
-use plc_scope::{Meaning, ParseFault, Scope, call, primitive};
+use plc_scope::{ParseFault, Resolved, Scope, call, primitive};
 use plc_syntax::{Call, Name, Placed, Primitive};
 use std::alloc::Global;
 
 /// Declares a label, and answers its number.
 #[tactic(auto, using(crate::proofs::Growth::labelled))]
-pub fn declare_label(scope: &mut Scope, name: Name) -> Meaning<u16>
+pub fn declare_label(scope: &mut Scope, name: Name) -> Resolved<u16>
     requires { CanLabel scope.old }
     ensures read { Gives (λ label. (label, scope.new)) result (label_means scope.old (name_tree name.entry)) }
     ensures grows { IfOk result (λ _. GrowsByLabels scope.old scope.new) }
@@ -30,7 +30,7 @@ pub fn declare_label(scope: &mut Scope, name: Name) -> Meaning<u16>
 }
 
 /// Declares the label of a call, if it has one.
-fn declare_during(scope: &mut Scope, name: Option<Name>) -> Meaning<Option<u16>>
+fn declare_during(scope: &mut Scope, name: Option<Name>) -> Resolved<Option<u16>>
     requires { CanLabel scope.old }
     ensures read { Gives (λ label. (label, scope.new)) result (during_means scope.old (name_or_none name.entry)) }
     ensures grows { IfOk result (λ _. GrowsByLabels scope.old scope.new) }
@@ -45,7 +45,7 @@ fn declare_during(scope: &mut Scope, name: Option<Name>) -> Meaning<Option<u16>>
 }
 
 /// An atomic block.
-pub fn atomic(alloc: Global, scope: &Scope, forms: &[Placed<Primitive>]) -> Meaning<Stmt>
+pub fn atomic(alloc: Global, scope: &Scope, forms: &[Placed<Primitive>]) -> Resolved<Stmt>
     requires { CanLabel scope.now }
     ensures { (lines : List ℕ) (in_loop : Bool) (at : ℕ) → MeansStatement lines in_loop at
         (AtomicStatement (map (placed_as primitive_tree) forms.now)) scope.now scope.now result }
@@ -55,7 +55,7 @@ pub fn atomic(alloc: Global, scope: &Scope, forms: &[Placed<Primitive>]) -> Mean
 }
 
 /// A call.
-pub fn call_statement(scope: &mut Scope, form: Call, during: Option<Name>) -> Meaning<Stmt>
+pub fn call_statement(scope: &mut Scope, form: Call, during: Option<Name>) -> Resolved<Stmt>
     requires { CanLabel scope.old }
     ensures { (lines : List ℕ) (in_loop : Bool) (at : ℕ) → MeansStatement lines in_loop at
         (CallStatement (name_tree form.entry.name) (argument_tree form.entry.argument) (name_or_none during.entry))
@@ -72,7 +72,7 @@ pub fn call_statement(scope: &mut Scope, form: Call, during: Option<Name>) -> Me
 }
 
 /// One primitive.
-pub fn primitive_statement(scope: &Scope, form: Primitive) -> Meaning<Stmt>
+pub fn primitive_statement(scope: &Scope, form: Primitive) -> Resolved<Stmt>
     requires { CanLabel scope.now }
     ensures { (lines : List ℕ) (in_loop : Bool) (at : ℕ) → MeansStatement lines in_loop at
         (PrimitiveStatement (primitive_tree form.entry)) scope.now scope.now result }

@@ -14,7 +14,7 @@ ghost use Rattle.plc_parse.specs.Views.{with_form};
 
 use plc_base::{Items, What1};
 use plc_lang::{Prim, is_new};
-use plc_scope::{Meaning, ParseFault, Scope, initial, primitive};
+use plc_scope::{ParseFault, Resolved, Scope, initial, primitive};
 use plc_syntax::{Initial, Placed, Primitive as PrimitiveForm};
 use std::alloc::Global;
 
@@ -51,7 +51,7 @@ impl Step {
 
     /// What a form at a place means, added. The limit's place is the form's first token, so a fault of
     /// that token goes before it.
-    fn add(&mut self, at: u32, meaning: Meaning<Option<Prim>>) -> Result<(), ParseFault>
+    fn add(&mut self, at: u32, meaning: Resolved<Option<Prim>>) -> Result<(), ParseFault>
         ensures { (said : Result (Option Primitive) ParseFault) → Gives (λ k. k) meaning said
             → Gives (λ _. (self.new.primitives, self.new.has_new)) result
             (with_form self.old.primitives self.old.has_new at said) }
@@ -87,7 +87,7 @@ pub trait StepForm: Copy {
     ghost kind: { FormKind Self };
 
     /// What the form means.
-    fn meaning(self, scope: &Scope) -> Meaning<Option<Prim>>
+    fn meaning(self, scope: &Scope) -> Resolved<Option<Prim>>
         requires { length scope.now.locals ≤ most_locals }
         ensures { Gives (λ k. k) result (kind.means scope.now (kind.tree self)) };
 }
@@ -95,7 +95,7 @@ pub trait StepForm: Copy {
 impl<'a> StepForm for PrimitiveForm<'a> {
     ghost kind = { atomic_forms };
 
-    fn meaning(self, scope: &Scope) -> Meaning<Option<Prim>> {
+    fn meaning(self, scope: &Scope) -> Resolved<Option<Prim>> {
         primitive(scope, self)
     }
 }
@@ -103,7 +103,7 @@ impl<'a> StepForm for PrimitiveForm<'a> {
 impl<'a> StepForm for Initial<'a> {
     ghost kind = { initial_forms };
 
-    fn meaning(self, scope: &Scope) -> Meaning<Option<Prim>> {
+    fn meaning(self, scope: &Scope) -> Resolved<Option<Prim>> {
         initial(scope, self)
     }
 }
@@ -113,7 +113,7 @@ pub fn step_of<F: StepForm>(
     alloc: Global,
     scope: &Scope,
     forms: &[Placed<F>],
-) -> Meaning<Items<Prim>>
+) -> Resolved<Items<Prim>>
     requires { length scope.now.locals ≤ most_locals }
     ensures { Gives (λ primitives. primitives) result
         (forms_mean (F.kind.means scope.now) 0 false (map (placed_as F.kind.tree) forms.now)) }

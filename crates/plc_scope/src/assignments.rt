@@ -11,7 +11,7 @@ ghost use Rattle.plc_scope.specs.Primitives.{set_means};
 ghost use Rattle.plc_scope.specs.Scope.{most_locals};
 
 use crate::binding::Role;
-use crate::fault::{Meaning, ParseFault};
+use crate::fault::{ParseFault, Resolved};
 use crate::numbers::number;
 use crate::scope::Scope;
 use plc_base::FieldId;
@@ -19,7 +19,7 @@ use plc_lang::{Num, Prim, Var};
 use plc_syntax::{Atom, Name, Set, Value};
 
 /// What is put into a pointer variable.
-fn pointer_value(scope: &Scope, p: Var, value: Value) -> Meaning<Prim>
+fn pointer_value(scope: &Scope, p: Var, value: Value) -> Resolved<Prim>
     requires { length scope.now.locals ≤ most_locals }
     ensures { Gives (λ k. k) result (pointer_value scope.now p (value_tree value.entry)) }
 {
@@ -43,7 +43,7 @@ fn pointer_value(scope: &Scope, p: Var, value: Value) -> Meaning<Prim>
 }
 
 /// What is put into a data local.
-fn data_value(scope: &Scope, x: u16, value: Value) -> Meaning<Prim>
+fn data_value(scope: &Scope, x: u16, value: Value) -> Resolved<Prim>
     requires { length scope.now.locals ≤ most_locals }
     ensures { Gives (λ k. k) result (data_value scope.now x (value_tree value.entry)) }
 {
@@ -70,7 +70,7 @@ fn data_value(scope: &Scope, x: u16, value: Value) -> Meaning<Prim>
 }
 
 /// What is put into the variable on the left, by what its name is.
-fn value_into(scope: &Scope, value: Value, left: Name, role: Role) -> Meaning<Prim>
+fn value_into(scope: &Scope, value: Value, left: Name, role: Role) -> Resolved<Prim>
     requires { length scope.now.locals ≤ most_locals }
     ensures { Gives (λ k. k) result (value_into scope.now (value_tree value.entry) (name_tree left.entry) role) }
 {
@@ -82,7 +82,7 @@ fn value_into(scope: &Scope, value: Value, left: Name, role: Role) -> Meaning<Pr
 }
 
 /// What is put into a pointer field.
-fn pointer_atom(scope: &Scope, p: Var, f: FieldId, atom: Atom) -> Meaning<Prim>
+fn pointer_atom(scope: &Scope, p: Var, f: FieldId, atom: Atom) -> Resolved<Prim>
     requires { length scope.now.locals ≤ most_locals }
     ensures { Gives (λ k. k) result (pointer_atom scope.now p f (atom_tree atom.entry)) }
 {
@@ -94,7 +94,7 @@ fn pointer_atom(scope: &Scope, p: Var, f: FieldId, atom: Atom) -> Meaning<Prim>
 }
 
 /// What is put into the field, by what its name is.
-fn atom_into(scope: &Scope, p: Var, atom: Atom, field: Name, role: Role) -> Meaning<Prim>
+fn atom_into(scope: &Scope, p: Var, atom: Atom, field: Name, role: Role) -> Resolved<Prim>
     requires { length scope.now.locals ≤ most_locals }
     ensures { Gives (λ k. k) result (atom_into scope.now p (atom_tree atom.entry) (name_tree field.entry) role) }
 {
@@ -106,7 +106,7 @@ fn atom_into(scope: &Scope, p: Var, atom: Atom, field: Name, role: Role) -> Mean
 }
 
 /// The primitive of an assignment: `Undeclared` or `WrongSort` at the least token that can't stand there.
-pub fn assignment(scope: &Scope, set: Set) -> Meaning<Prim>
+pub fn assignment(scope: &Scope, set: Set) -> Resolved<Prim>
     requires { length scope.now.locals ≤ most_locals }
     ensures { Gives (λ k. k) result (set_means scope.now (set_tree set.entry)) }
 {

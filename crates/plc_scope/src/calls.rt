@@ -7,7 +7,7 @@ ghost use Rattle.plc_scope.specs.Primitives.{call_means};
 ghost use Rattle.plc_scope.specs.Scope.{most_locals};
 ghost use Rattle.plc_scope.specs.Views.{call_meaning};
 
-use crate::fault::{Meaning, ParseFault};
+use crate::fault::{ParseFault, Resolved};
 use crate::scope::Scope;
 use plc_base::FuncId;
 use plc_lang::Arg;
@@ -25,7 +25,7 @@ pub struct Called {
 /// What a call means. `Undeclared` or `WrongSort` at a name that can't stand there;
 /// `NoSuchCall` at the function's name for an argument too many or too few, and for `retire` of null.
 #[tactic(auto, unfolding(crate::specs::Primitives::call_means))]
-pub fn call(scope: &Scope, form: Call) -> Meaning<Called>
+pub fn call(scope: &Scope, form: Call) -> Resolved<Called>
     requires { length scope.now.locals ≤ most_locals }
     ensures { Gives call_meaning result
         (call_means scope.now (name_tree form.entry.name) (argument_tree form.entry.argument)) }

@@ -10,7 +10,7 @@ ghost use Rattle.plc_scope.specs.Primitives.{condition_means};
 ghost use Rattle.plc_scope.specs.Scope.{most_locals};
 
 use crate::binding::Role;
-use crate::fault::{Meaning, ParseFault};
+use crate::fault::{ParseFault, Resolved};
 use crate::numbers::number;
 use crate::refreshes::refresh_into;
 use crate::scope::Scope;
@@ -18,7 +18,7 @@ use plc_lang::{Cond, Prim, Rel, Var};
 use plc_syntax::{Atom, Cas, Condition, Name, Placed, Relation, Test};
 
 /// A test of pointers, which have no order.
-fn pointer_test(scope: &Scope, p: Var, relation: Placed<Relation>, atom: Atom) -> Meaning<Prim>
+fn pointer_test(scope: &Scope, p: Var, relation: Placed<Relation>, atom: Atom) -> Resolved<Prim>
     requires { length scope.now.locals ≤ most_locals }
     ensures { Gives (λ k. k) result (pointer_test scope.now p relation.at (relation_tree relation.value)
         (atom_tree atom.entry)) }
@@ -46,7 +46,7 @@ fn data_relation(form: Relation) -> Rel
 }
 
 /// The primitive of a test: `Undeclared` or `WrongSort` at the least token that can't stand there.
-pub fn test(scope: &Scope, test: Test) -> Meaning<Prim>
+pub fn test(scope: &Scope, test: Test) -> Resolved<Prim>
     requires { length scope.now.locals ≤ most_locals }
     ensures { Gives (λ k. k) result (test_means scope.now (test_tree test.entry)) }
 {
@@ -73,7 +73,7 @@ pub fn test(scope: &Scope, test: Test) -> Meaning<Prim>
 }
 
 /// A pointer variable, or none for null.
-fn pointer_or_null(scope: &Scope, name: Option<Name>) -> Meaning<Option<Var>>
+fn pointer_or_null(scope: &Scope, name: Option<Name>) -> Resolved<Option<Var>>
     requires { length scope.now.locals ≤ most_locals }
     ensures { Gives (λ v. v) result (pointer_or_null scope.now (name_or_none name.entry)) }
 {
@@ -84,7 +84,7 @@ fn pointer_or_null(scope: &Scope, name: Option<Name>) -> Meaning<Option<Var>>
 }
 
 /// The three pointers of a cas.
-fn cas(scope: &Scope, cas: Cas) -> Meaning<Cond>
+fn cas(scope: &Scope, cas: Cas) -> Resolved<Cond>
     requires { length scope.now.locals ≤ most_locals }
     ensures { Gives (λ c. c) result
         (cas_means scope.now cas.entry.is_active (name_tree cas.entry.name) (name_or_none cas.entry.old)
@@ -103,7 +103,7 @@ fn cas(scope: &Scope, cas: Cas) -> Meaning<Cond>
 }
 
 /// The condition of an `if`: `Undeclared` or `WrongSort` at the least token that can't stand there.
-pub fn condition(scope: &Scope, condition: Condition) -> Meaning<Cond>
+pub fn condition(scope: &Scope, condition: Condition) -> Resolved<Cond>
     requires { length scope.now.locals ≤ most_locals }
     ensures { Gives (λ c. c) result (condition_means scope.now (condition_tree condition.entry)) }
 {

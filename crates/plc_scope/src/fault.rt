@@ -28,7 +28,7 @@ pub enum ParseFault {
 }
 
 /// What a form or a name means, or why it means nothing.
-pub type Meaning<T> = Result<T, ParseFault>;
+pub type Resolved<T> = Result<T, ParseFault>;
 
 impl ParseFault {
     /// The fault of one more of something than there may be.

@@ -17,6 +17,6 @@ mod scope;
 pub use binding::{Binding, Found, Role};
 pub use calls::{Called, call};
 pub use conditions::condition;
-pub use fault::{Meaning, ParseFault};
+pub use fault::{ParseFault, Resolved};
 pub use primitives::{initial, primitive};
 pub use scope::{Scope, add_name};

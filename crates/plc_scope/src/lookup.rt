@@ -11,7 +11,7 @@ ghost use Rattle.plc_scope.specs.Scope.{as_pointer_local, as_function, as_protec
 ghost use Rattle.plc_scope.specs.Scope.{as_value_of, as_thread};
 
 use crate::binding::{Binding, Found, Role};
-use crate::fault::{Meaning, ParseFault};
+use crate::fault::{ParseFault, Resolved};
 use crate::scope::Scope;
 use plc_base::{FieldId, FuncId};
 use plc_lang::{Local, Var, data_number, pointer_number};
@@ -109,7 +109,7 @@ impl Scope {
     }
 
     /// What a name is. `Undeclared` where it has no declaration in reach.
-    pub fn role(&self, name: Name) -> Meaning<Role>
+    pub fn role(&self, name: Name) -> Resolved<Role>
         requires { length self.now.locals ≤ most_locals }
         ensures { Gives (λ role. role) result (role_at self.now (name_tree name.entry)) }
     {
@@ -118,7 +118,7 @@ impl Scope {
     }
 
     /// The pointer variable that a name is; `Undeclared`, or `WrongSort` for another thing.
-    pub fn pointer_at(&self, name: Name) -> Meaning<Var>
+    pub fn pointer_at(&self, name: Name) -> Resolved<Var>
         requires { length self.now.locals ≤ most_locals }
         ensures { Gives (λ variable. variable) result (role_as as_pointer self.now (name_tree name.entry)) }
     {
@@ -126,7 +126,7 @@ impl Scope {
     }
 
     /// The reclaimer function that a name is, and whether it takes a pointer; else `Undeclared` or `WrongSort`.
-    pub fn function_at(&self, name: Name) -> Meaning<(FuncId, bool)>
+    pub fn function_at(&self, name: Name) -> Resolved<(FuncId, bool)>
         requires { length self.now.locals ≤ most_locals }
         ensures { Gives (λ x. (x.0, x.1)) result (role_as as_function self.now (name_tree name.entry)) }
     {
@@ -134,7 +134,7 @@ impl Scope {
     }
 
     /// The auxiliary field that a name is, and whether it holds a thread; else `Undeclared` or `WrongSort`.
-    pub fn auxiliary_at(&self, name: Name) -> Meaning<(u16, bool)>
+    pub fn auxiliary_at(&self, name: Name) -> Resolved<(u16, bool)>
         requires { length self.now.locals ≤ most_locals }
         ensures { Gives (λ x. (x.0, x.1)) result (role_as as_auxiliary self.now (name_tree name.entry)) }
     {
@@ -142,7 +142,7 @@ impl Scope {
     }
 
     /// The data local that a name is; `Undeclared`, or `WrongSort` for another thing.
-    pub fn data_at(&self, name: Name) -> Meaning<u16>
+    pub fn data_at(&self, name: Name) -> Resolved<u16>
         requires { length self.now.locals ≤ most_locals }
         ensures { Gives (λ local. local) result (role_as as_data self.now (name_tree name.entry)) }
     {
@@ -150,7 +150,7 @@ impl Scope {
     }
 
     /// The function that sets a hazard pointer: with a pointer, and not `retire`; else `Undeclared` or `WrongSort`.
-    pub fn protecting_at(&self, name: Name) -> Meaning<FuncId>
+    pub fn protecting_at(&self, name: Name) -> Resolved<FuncId>
         requires { length self.now.locals ≤ most_locals }
         ensures { Gives (λ x. x) result (role_as as_protecting self.now (name_tree name.entry)) }
     {
@@ -158,7 +158,7 @@ impl Scope {
     }
 
     /// The pointer field that a name is; `Undeclared`, or `WrongSort` for another thing.
-    pub fn pointer_field_at(&self, name: Name) -> Meaning<FieldId>
+    pub fn pointer_field_at(&self, name: Name) -> Resolved<FieldId>
         requires { length self.now.locals ≤ most_locals }
         ensures { Gives (λ field. field) result (role_as as_pointer_field self.now (name_tree name.entry)) }
     {
@@ -166,7 +166,7 @@ impl Scope {
     }
 
     /// The function that takes no pointer, such as those of an epoch; else `Undeclared` or `WrongSort`.
-    pub fn without_pointer_at(&self, name: Name) -> Meaning<FuncId>
+    pub fn without_pointer_at(&self, name: Name) -> Resolved<FuncId>
         requires { length self.now.locals ≤ most_locals }
         ensures { Gives (λ x. x) result (role_as as_without_pointer self.now (name_tree name.entry)) }
     {
@@ -174,7 +174,7 @@ impl Scope {
     }
 
     /// The data field that a name is; `Undeclared`, or `WrongSort` for another thing.
-    pub fn data_field_at(&self, name: Name) -> Meaning<FieldId>
+    pub fn data_field_at(&self, name: Name) -> Resolved<FieldId>
         requires { length self.now.locals ≤ most_locals }
         ensures { Gives (λ field. field) result (role_as as_data_field self.now (name_tree name.entry)) }
     {
@@ -182,7 +182,7 @@ impl Scope {
     }
 
     /// The pointer local that a name is; `Undeclared`, or `WrongSort` for another thing.
-    pub fn pointer_local_at(&self, name: Name) -> Meaning<u16>
+    pub fn pointer_local_at(&self, name: Name) -> Resolved<u16>
         requires { length self.now.locals ≤ most_locals }
         ensures { Gives (λ x. x) result (role_as as_pointer_local self.now (name_tree name.entry)) }
     {
@@ -190,7 +190,7 @@ impl Scope {
     }
 
     /// The value that a name is, of the auxiliary field with this number; else `Undeclared` or `WrongSort`.
-    pub fn value_at(&self, field: u16, name: Name) -> Meaning<u16>
+    pub fn value_at(&self, field: u16, name: Name) -> Resolved<u16>
         requires { length self.now.locals ≤ most_locals }
         ensures { Gives (λ x. x) result (role_as (as_value_of field) self.now (name_tree name.entry)) }
     {
@@ -198,7 +198,7 @@ impl Scope {
     }
 
     /// Where a thread is wanted no name can stand: `Undeclared`, or else `WrongSort`.
-    pub fn thread_at(&self, name: Name) -> Meaning<u16>
+    pub fn thread_at(&self, name: Name) -> Resolved<u16>
         requires { length self.now.locals ≤ most_locals }
         ensures { Gives (λ x. x) result (role_as as_thread self.now (name_tree name.entry)) }
     {

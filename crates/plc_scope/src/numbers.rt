@@ -7,13 +7,13 @@ ghost use Rattle.plc_scope.specs.Answers.{Gives};
 ghost use Rattle.plc_scope.specs.Primitives.{with_number};
 ghost use Rattle.plc_scope.specs.Scope.{most_locals};
 
-use crate::fault::{Meaning, ParseFault};
+use crate::fault::{ParseFault, Resolved};
 use crate::scope::Scope;
 use plc_lang::Num;
 use plc_syntax::Atom;
 
 /// The number that is put into a data field or compared with a data local.
-pub fn number(scope: &Scope, atom: Atom) -> Meaning<Num>
+pub fn number(scope: &Scope, atom: Atom) -> Resolved<Num>
     requires { length scope.now.locals ≤ most_locals }
     ensures { (make : Num → Primitive) → Gives make result
         (with_number scope.now (atom_tree atom.entry) make) }

@@ -9,7 +9,7 @@ ghost use Rattle.plc_scope.specs.Scope.{most_locals};
 
 use crate::assignments::assignment;
 use crate::conditions::test;
-use crate::fault::Meaning;
+use crate::fault::Resolved;
 use crate::refreshes::{ghost_set, refresh};
 use crate::scope::Scope;
 use plc_lang::Prim;
@@ -17,7 +17,7 @@ use plc_syntax::{Initial, Primitive};
 
 /// The primitive of a form, or `None` for `skip`, which is none: `Undeclared` or `WrongSort` at the least
 /// token that can't stand there.
-pub fn primitive(scope: &Scope, form: Primitive) -> Meaning<Option<Prim>>
+pub fn primitive(scope: &Scope, form: Primitive) -> Resolved<Option<Prim>>
     requires { length scope.now.locals ≤ most_locals }
     ensures { Gives (λ k. k) result (primitive_means scope.now (primitive_tree form.entry)) }
 {
@@ -35,7 +35,7 @@ pub fn primitive(scope: &Scope, form: Primitive) -> Meaning<Option<Prim>>
 }
 
 /// The primitive of an assignment of `init`, with the same faults. No thread acts there.
-pub fn initial(scope: &Scope, form: Initial) -> Meaning<Option<Prim>>
+pub fn initial(scope: &Scope, form: Initial) -> Resolved<Option<Prim>>
     requires { length scope.now.locals ≤ most_locals }
     ensures { Gives (λ k. k) result (initial_means scope.now (initial_tree form.entry)) }
 {

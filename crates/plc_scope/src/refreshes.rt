@@ -6,14 +6,14 @@ ghost use Rattle.plc_scope.specs.Answers.{Gives};
 ghost use Rattle.plc_scope.specs.Primitives.{refresh_name_means, refresh_means, ghost_value_means, ghost_set_means};
 ghost use Rattle.plc_scope.specs.Scope.{most_locals};
 
-use crate::fault::{Meaning, ParseFault};
+use crate::fault::{ParseFault, Resolved};
 use crate::scope::Scope;
 use plc_lang::{GhostVal, Prim};
 use plc_syntax::{GhostSet, GhostValue, Name, Place, Refresh};
 
 /// The primitive of a refresh into a pointer local.
 #[tactic(auto, unfolding(crate::specs::Primitives::refresh_name_means))]
-pub fn refresh_into(scope: &Scope, name: Name, place: Place) -> Meaning<Prim>
+pub fn refresh_into(scope: &Scope, name: Name, place: Place) -> Resolved<Prim>
     requires { length scope.now.locals ≤ most_locals }
     ensures { Gives (λ k. k) result
         (refresh_name_means scope.now (name_tree name.entry) (place_tree place.entry)) }
@@ -30,7 +30,7 @@ pub fn refresh_into(scope: &Scope, name: Name, place: Place) -> Meaning<Prim>
 
 /// The primitive of a refresh into a pointer local or into a pointer field.
 #[tactic(auto, unfolding(crate::specs::Primitives::refresh_means))]
-pub fn refresh(scope: &Scope, refresh: Refresh) -> Meaning<Prim>
+pub fn refresh(scope: &Scope, refresh: Refresh) -> Resolved<Prim>
     requires { length scope.now.locals ≤ most_locals }
     ensures { Gives (λ k. k) result (refresh_means scope.now (refresh_tree refresh.entry)) }
 {
@@ -53,7 +53,7 @@ fn ghost_value(
     g: u16,
     of_threads: bool,
     value: GhostValue,
-) -> Meaning<GhostVal>
+) -> Resolved<GhostVal>
     requires { length scope.now.locals ≤ most_locals }
     ensures { Gives (λ v. v) result
         (ghost_value_means scope.now in_init g of_threads (ghost_value_tree value.entry)) }
@@ -69,7 +69,7 @@ fn ghost_value(
 
 /// The primitive of an assignment to an auxiliary field, in `init` or in an operation.
 #[tactic(auto, unfolding(crate::specs::Primitives::ghost_set_means))]
-pub fn ghost_set(scope: &Scope, in_init: bool, set: GhostSet) -> Meaning<Prim>
+pub fn ghost_set(scope: &Scope, in_init: bool, set: GhostSet) -> Resolved<Prim>
     requires { length scope.now.locals ≤ most_locals }
     ensures { Gives (λ k. k) result (ghost_set_means scope.now in_init (ghost_set_tree set.entry)) }
 {

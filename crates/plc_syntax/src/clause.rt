@@ -8,7 +8,7 @@ ghost use Rattle.plc_syntax.specs.Answers.{Gives};
 
 use crate::form::{Bound, Flag, Literal, Name, Placed, Term};
 use crate::front::{
-    Front, Read, at_front, name_and_at, name_at, number_at, stuck, symbol_at, word_at,
+    Front, Read, at_front, name_and_at, name_at, number_at, symbol_at, syntax_fault, word_at,
 };
 use crate::rest::Rest;
 use crate::statement::{place_at, place_of_name_at};
@@ -25,8 +25,8 @@ fn term_at<'a>(rest: Rest<'a>) -> Read<'a, Term<'a>>
         (Front::Word(Keyword::Me), after) => Ok((Term::Me(rest.at), after)),
         (Front::Word(Keyword::None), after) => Ok((Term::None(rest.at), after)),
         (Front::Name(name), after) =>
-            within!(Term::Place(place); place = place_of_name_at(name, after)),
-        _ => Err(stuck(rest)),
+            form!(Term::Place(place); place = place_of_name_at(name, after)),
+        _ => Err(syntax_fault(rest)),
     }
 }
 
@@ -37,7 +37,7 @@ fn equality_at<'a>(rest: Rest<'a>) -> Read<'a, bool>
     match at_front(rest) {
         (Front::Symbol(Symbol::Equal), after) => Ok((true, after)),
         (Front::Symbol(Symbol::Unequal), after) => Ok((false, after)),
-        _ => Err(stuck(rest)),
+        _ => Err(syntax_fault(rest)),
     }
 }
 
@@ -47,7 +47,7 @@ fn retired_at<'a>(rest: Rest<'a>) -> Read<'a, Flag<'a>>
 {
     in_turn!(
         after = symbol_at(rest, Symbol::OpenParen);
-        within!(Flag::Retired(name); name = name_and_at(after, Symbol::CloseParen))
+        form!(Flag::Retired(name); name = name_and_at(after, Symbol::CloseParen))
     )
 }
 
@@ -57,7 +57,7 @@ fn marked_at<'a>(rest: Rest<'a>) -> Read<'a, Flag<'a>>
 {
     in_turn!(
         after = symbol_at(rest, Symbol::OpenParen);
-        within!(Flag::Marked(place); place = place_at(after), CloseParen)
+        form!(Flag::Marked(place); place = place_at(after), CloseParen)
     )
 }
 
@@ -68,7 +68,7 @@ fn flag_at<'a>(rest: Rest<'a>) -> Read<'a, Flag<'a>>
     match at_front(rest) {
         (Front::Word(Keyword::Retired), after) => retired_at(after),
         (Front::Word(Keyword::Marked), after) => marked_at(after),
-        _ => Err(stuck(rest)),
+        _ => Err(syntax_fault(rest)),
     }
 }
 
@@ -79,7 +79,7 @@ fn equation_at<'a>(rest: Rest<'a>) -> Read<'a, Literal<'a>>
     in_turn!(
         (left, after) = term_at(rest);
         (is_equal, after) = equality_at(after);
-        within!(Literal::Equation(left, is_equal, right); right = term_at(after))
+        form!(Literal::Equation(left, is_equal, right); right = term_at(after))
     )
 }
 
@@ -88,11 +88,11 @@ pub fn literal_at<'a>(rest: Rest<'a>) -> Read<'a, Literal<'a>>
     ensures { Gives literal_tree result (literal_of rest.entry.at (kinds rest.entry.tokens.now)) }
 {
     match at_front(rest) {
-        (Front::Word(Keyword::Not), after) => within!(Literal::Not(flag); flag = flag_at(after)),
+        (Front::Word(Keyword::Not), after) => form!(Literal::Not(flag); flag = flag_at(after)),
         (Front::Word(Keyword::Retired), after) =>
-            within!(Literal::Flag(flag); flag = retired_at(after)),
+            form!(Literal::Flag(flag); flag = retired_at(after)),
         (Front::Word(Keyword::Marked), after) =>
-            within!(Literal::Flag(flag); flag = marked_at(after)),
+            form!(Literal::Flag(flag); flag = marked_at(after)),
         _ => equation_at(rest),
     }
 }
@@ -103,7 +103,7 @@ pub fn or_literal_at<'a>(rest: Rest<'a>) -> Read<'a, Placed<Literal<'a>>>
 {
     in_turn!(
         after = word_at(rest, Keyword::Or);
-        within!(Placed { at: after.at, value }; value = literal_at(after))
+        form!(Placed { at: after.at, value }; value = literal_at(after))
     )
 }
 
@@ -112,7 +112,7 @@ fn second_at<'a>(rest: Rest<'a>) -> Read<'a, Option<Name<'a>>>
     ensures { Gives name_or_none result (second_of rest.entry.at (kinds rest.entry.tokens.now)) }
 {
     match at_front(rest) {
-        (Front::Symbol(Symbol::Comma), after) => within!(Some(name); name = name_at(after)),
+        (Front::Symbol(Symbol::Comma), after) => form!(Some(name); name = name_at(after)),
         _ => Ok((None, rest)),
     }
 }
@@ -123,7 +123,7 @@ fn all_at<'a>(rest: Rest<'a>) -> Read<'a, Bound<'a>>
 {
     in_turn!(
         (name, after) = name_at(rest);
-        within!(Bound::All(name, second); second = second_at(after), Colon)
+        form!(Bound::All(name, second); second = second_at(after), Colon)
     )
 }
 
@@ -143,7 +143,7 @@ pub fn depth_at<'a>(rest: Rest<'a>) -> Read<'a, Option<Placed<u32>>>
 {
     match at_front(rest) {
         (Front::Word(Keyword::Depth), after) =>
-            within!(Some(depth); depth = number_at(after), Semicolon),
+            form!(Some(depth); depth = number_at(after), Semicolon),
         _ => Ok((None, rest)),
     }
 }

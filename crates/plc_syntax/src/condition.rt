@@ -6,7 +6,9 @@ ghost use Rattle.plc_syntax.specs.Forms.{cas_condition_of, named_condition_of, c
 ghost use Rattle.plc_syntax.specs.Answers.{Gives};
 
 use crate::form::{Cas, Condition, Name, Placed, Relation, Test};
-use crate::front::{Front, Read, at_front, name_and_at, name_at, stuck, symbol_at, word_if_at};
+use crate::front::{
+    Front, Read, at_front, name_and_at, name_at, symbol_at, syntax_fault, word_if_at,
+};
 use crate::rest::Rest;
 use crate::statement::{atom_at, place_at};
 use crate::{in_turn, within};
@@ -21,7 +23,7 @@ fn relation_at<'a>(rest: Rest<'a>) -> Read<'a, Relation>
         (Front::Symbol(Symbol::Unequal), after) => Ok((Relation::Other, after)),
         (Front::Symbol(Symbol::Less), after) => Ok((Relation::Less, after)),
         (Front::Symbol(Symbol::AtLeast), after) => Ok((Relation::NotLess, after)),
-        _ => Err(stuck(rest)),
+        _ => Err(syntax_fault(rest)),
     }
 }
 
@@ -31,7 +33,7 @@ fn compared_at<'a>(name: Name<'a>, rest: Rest<'a>) -> Read<'a, Test<'a>>
 {
     in_turn!(
         (value, after) = relation_at(rest);
-        within!(Test::Compares { name, relation: Placed { at: rest.at, value }, atom }; atom = atom_at(after))
+        form!(Test::Compares { name, relation: Placed { at: rest.at, value }, atom }; atom = atom_at(after))
     )
 }
 
@@ -41,10 +43,10 @@ pub fn test_at<'a>(rest: Rest<'a>) -> Read<'a, Test<'a>>
 {
     match at_front(rest) {
         (Front::Name(name), after) => compared_at(name, after),
-        (Front::Word(Keyword::Marked), after) => within!(Test::Marked(name); name = name_at(after)),
+        (Front::Word(Keyword::Marked), after) => form!(Test::Marked(name); name = name_at(after)),
         (Front::Word(Keyword::Unmarked), after) =>
-            within!(Test::Unmarked(name); name = name_at(after)),
-        _ => Err(stuck(rest)),
+            form!(Test::Unmarked(name); name = name_at(after)),
+        _ => Err(syntax_fault(rest)),
     }
 }
 
@@ -55,7 +57,7 @@ fn name_or_null_at<'a>(rest: Rest<'a>) -> Read<'a, Option<Name<'a>>>
     match at_front(rest) {
         (Front::Name(name), after) => Ok((Some(name), after)),
         (Front::Word(Keyword::Null), after) => Ok((None, after)),
-        _ => Err(stuck(rest)),
+        _ => Err(syntax_fault(rest)),
     }
 }
 
@@ -67,7 +69,7 @@ fn cas_at<'a>(is_active: bool, rest: Rest<'a>) -> Read<'a, Cas<'a>>
         (name, after) = name_and_at(rest, Symbol::Comma);
         (old, after) = name_or_null_at(after);
         after = symbol_at(after, Symbol::Comma);
-        within!(Cas { is_active, name, old, new }; new = name_or_null_at(after), CloseParen)
+        form!(Cas { is_active, name, old, new }; new = name_or_null_at(after), CloseParen)
     )
 }
 
@@ -78,7 +80,7 @@ fn cas_condition_at<'a>(rest: Rest<'a>) -> Read<'a, Condition<'a>>
     in_turn!(
         after = symbol_at(rest, Symbol::OpenParen);
         (is_active, after) = word_if_at(after, Keyword::Active);
-        within!(Condition::Cas(cas); cas = cas_at(is_active, after))
+        form!(Condition::Cas(cas); cas = cas_at(is_active, after))
     )
 }
 
@@ -89,8 +91,8 @@ fn named_condition_at<'a>(name: Name<'a>, rest: Rest<'a>) -> Read<'a, Condition<
 {
     match at_front(rest) {
         (Front::Symbol(Symbol::Refresh), after) =>
-            within!(Condition::Refresh(name, place); place = place_at(after)),
-        _ => within!(Condition::Test(test); test = compared_at(name, rest)),
+            form!(Condition::Refresh(name, place); place = place_at(after)),
+        _ => form!(Condition::Test(test); test = compared_at(name, rest)),
     }
 }
 
@@ -101,6 +103,6 @@ pub fn condition_at<'a>(rest: Rest<'a>) -> Read<'a, Condition<'a>>
     match at_front(rest) {
         (Front::Word(Keyword::Cas), after) => cas_condition_at(after),
         (Front::Name(name), after) => named_condition_at(name, after),
-        _ => within!(Condition::Test(test); test = test_at(rest)),
+        _ => form!(Condition::Test(test); test = test_at(rest)),
     }
 }

@@ -8,7 +8,9 @@ ghost use Rattle.plc_syntax.specs.Forms.{scheme_of, watch_of, set_field_of, set_
 ghost use Rattle.plc_syntax.specs.Answers.{Gives};
 
 use crate::form::{Declaration, Function, Initial, Name, Set, Shared, Watch};
-use crate::front::{Front, Read, at_front, name_and_at, stuck, symbol_at, word_at, word_if_at};
+use crate::front::{
+    Front, Read, at_front, name_and_at, symbol_at, syntax_fault, word_at, word_if_at,
+};
 use crate::rest::Rest;
 use crate::statement::{atom_at, ghost_set_at, value_at};
 use crate::{in_turn, within};
@@ -20,10 +22,10 @@ pub fn field_at<'a>(rest: Rest<'a>) -> Read<'a, Declaration<'a>>
 {
     match at_front(rest) {
         (Front::Word(Keyword::Ptr), after) =>
-            within!(Declaration::Pointer(name); name = name_and_at(after, Symbol::Semicolon)),
+            form!(Declaration::Pointer(name); name = name_and_at(after, Symbol::Semicolon)),
         (Front::Word(Keyword::Data), after) =>
-            within!(Declaration::Data(name); name = name_and_at(after, Symbol::Semicolon)),
-        _ => Err(stuck(rest)),
+            form!(Declaration::Data(name); name = name_and_at(after, Symbol::Semicolon)),
+        _ => Err(syntax_fault(rest)),
     }
 }
 
@@ -33,7 +35,7 @@ pub fn shared_at<'a>(rest: Rest<'a>) -> Read<'a, Shared<'a>>
 {
     in_turn!(
         after = word_at(rest, Keyword::Shared);
-        within!(Shared { name }; name = name_and_at(after, Symbol::Semicolon))
+        form!(Shared { name }; name = name_and_at(after, Symbol::Semicolon))
     )
 }
 
@@ -44,7 +46,7 @@ pub fn function_at<'a>(rest: Rest<'a>) -> Read<'a, Function<'a>>
     in_turn!(
         after = word_at(rest, Keyword::Call);
         (name, after) = name_and_at(after, Symbol::OpenParen);
-        within!(
+        form!(
             Function { name, takes_pointer };
             takes_pointer = word_if_at(after, Keyword::Ptr), CloseParen, Semicolon
         )
@@ -57,7 +59,7 @@ fn hazard_at<'a>(rest: Rest<'a>) -> Read<'a, Watch<'a>>
 {
     in_turn!(
         after = symbol_at(rest, Symbol::OpenParen);
-        within!(Watch::Hazard(function); function = name_and_at(after, Symbol::CloseParen), Semicolon)
+        form!(Watch::Hazard(function); function = name_and_at(after, Symbol::CloseParen), Semicolon)
     )
 }
 
@@ -68,7 +70,7 @@ fn epoch_at<'a>(rest: Rest<'a>) -> Read<'a, Watch<'a>>
     in_turn!(
         after = symbol_at(rest, Symbol::OpenParen);
         (enter, after) = name_and_at(after, Symbol::Comma);
-        within!(Watch::Epoch(enter, leave); leave = name_and_at(after, Symbol::CloseParen), Semicolon)
+        form!(Watch::Epoch(enter, leave); leave = name_and_at(after, Symbol::CloseParen), Semicolon)
     )
 }
 
@@ -79,7 +81,7 @@ fn scheme_at<'a>(rest: Rest<'a>) -> Read<'a, Watch<'a>>
     match at_front(rest) {
         (Front::Word(Keyword::Hazard), after) => hazard_at(after),
         (Front::Word(Keyword::Epoch), after) => epoch_at(after),
-        _ => Err(stuck(rest)),
+        _ => Err(syntax_fault(rest)),
     }
 }
 
@@ -88,7 +90,7 @@ pub fn watch_at<'a>(rest: Rest<'a>) -> Read<'a, Option<Watch<'a>>>
     ensures { Gives watched_tree result (watch_of rest.entry.at (kinds rest.entry.tokens.now)) }
 {
     match at_front(rest) {
-        (Front::Word(Keyword::Use), after) => within!(Some(watch); watch = scheme_at(after)),
+        (Front::Word(Keyword::Use), after) => form!(Some(watch); watch = scheme_at(after)),
         _ => Ok((None, rest)),
     }
 }
@@ -99,7 +101,7 @@ fn set_field_at<'a>(name: Name<'a>, rest: Rest<'a>) -> Read<'a, Set<'a>>
 {
     in_turn!(
         (field, after) = name_and_at(rest, Symbol::Assign);
-        within!(Set::Field(name, field, atom); atom = atom_at(after))
+        form!(Set::Field(name, field, atom); atom = atom_at(after))
     )
 }
 
@@ -109,9 +111,9 @@ fn set_of_name_at<'a>(name: Name<'a>, rest: Rest<'a>) -> Read<'a, Set<'a>>
 {
     match at_front(rest) {
         (Front::Symbol(Symbol::Assign), after) =>
-            within!(Set::Name(name, value); value = value_at(after)),
+            form!(Set::Name(name, value); value = value_at(after)),
         (Front::Symbol(Symbol::Dot), after) => set_field_at(name, after),
-        _ => Err(stuck(rest)),
+        _ => Err(syntax_fault(rest)),
     }
 }
 
@@ -121,9 +123,9 @@ pub fn initial_at<'a>(rest: Rest<'a>) -> Read<'a, Initial<'a>>
 {
     match at_front(rest) {
         (Front::Name(name), after) =>
-            within!(Initial::Set(set); set = set_of_name_at(name, after), Semicolon),
+            form!(Initial::Set(set); set = set_of_name_at(name, after), Semicolon),
         (Front::Word(Keyword::Ghost), after) =>
-            within!(Initial::Ghost(set); set = ghost_set_at(after), Semicolon),
-        _ => Err(stuck(rest)),
+            form!(Initial::Ghost(set); set = ghost_set_at(after), Semicolon),
+        _ => Err(syntax_fault(rest)),
     }
 }

@@ -31,7 +31,7 @@ macro_rules! in_turn {
 
 /// A form, which holds what is read by its name, and then the symbols that end it.
 #[macro_export]
-macro_rules! within {
+macro_rules! form {
     ($form:expr; $part:ident = $read:expr) => {
         $crate::in_turn!(($part, after) = $read; Ok(($form, after)))
     };
@@ -53,7 +53,7 @@ macro_rules! within {
 }
 
 /// The fault at the first token.
-pub fn stuck(rest: Rest) -> Fault
+pub fn syntax_fault(rest: Rest) -> Fault
     ensures { result ≡ Fault.Syntax rest.entry.at }
 {
     Fault::Syntax { at: rest.at }
@@ -114,7 +114,7 @@ pub fn word_at<'a>(rest: Rest<'a>, word: Keyword) -> Result<Rest<'a>, Fault>
 {
     match at_front(rest) {
         (Front::Word(found), after) if found == word => Ok(after),
-        _ => Err(stuck(rest)),
+        _ => Err(syntax_fault(rest)),
     }
 }
 
@@ -134,7 +134,7 @@ pub fn symbol_at<'a>(rest: Rest<'a>, symbol: Symbol) -> Result<Rest<'a>, Fault>
 {
     match at_front(rest) {
         (Front::Symbol(found), after) if found == symbol => Ok(after),
-        _ => Err(stuck(rest)),
+        _ => Err(syntax_fault(rest)),
     }
 }
 
@@ -144,7 +144,7 @@ pub fn name_at<'a>(rest: Rest<'a>) -> Read<'a, Name<'a>>
 {
     match at_front(rest) {
         (Front::Name(name), after) => Ok((name, after)),
-        _ => Err(stuck(rest)),
+        _ => Err(syntax_fault(rest)),
     }
 }
 
@@ -154,7 +154,7 @@ pub fn comma_name_at<'a>(rest: Rest<'a>) -> Read<'a, Name<'a>>
 {
     match at_front(rest) {
         (Front::Symbol(Symbol::Comma), after) => name_at(after),
-        _ => Err(stuck(rest)),
+        _ => Err(syntax_fault(rest)),
     }
 }
 
@@ -175,6 +175,6 @@ pub fn number_at<'a>(rest: Rest<'a>) -> Read<'a, Placed<u32>>
 {
     match at_front(rest) {
         (Front::Number(number), after) => Ok((number, after)),
-        _ => Err(stuck(rest)),
+        _ => Err(syntax_fault(rest)),
     }
 }

@@ -27,7 +27,8 @@ pub use form::{
     Value, Watch,
 };
 pub use front::{
-    Front, Read, at_front, comma_name_at, first, name_and_at, name_at, stuck, symbol_at, word_at,
+    Front, Read, at_front, comma_name_at, first, name_and_at, name_at, symbol_at, syntax_fault,
+    word_at,
 };
 pub use marks::trees_spell_their_marks;
 pub use rest::Rest;

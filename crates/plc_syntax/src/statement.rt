@@ -12,7 +12,7 @@ use crate::condition::test_at;
 use crate::form::{
     Argument, Atom, GhostSet, GhostValue, Name, Place, Primitive, Refresh, Set, Value,
 };
-use crate::front::{Front, Read, at_front, name_and_at, name_at, stuck};
+use crate::front::{Front, Read, at_front, name_and_at, name_at, syntax_fault};
 use crate::rest::Rest;
 use crate::{in_turn, within};
 use plc_lex::{Keyword, Symbol};
@@ -24,7 +24,7 @@ pub fn place_of_name_at<'a>(name: Name<'a>, rest: Rest<'a>) -> Read<'a, Place<'a
 {
     match at_front(rest) {
         (Front::Symbol(Symbol::Dot), after) =>
-            within!(Place { name, field: Some(field) }; field = name_at(after)),
+            form!(Place { name, field: Some(field) }; field = name_at(after)),
         _ => Ok((Place { name, field: None }, rest)),
     }
 }
@@ -48,12 +48,12 @@ pub fn value_at<'a>(rest: Rest<'a>) -> Read<'a, Value<'a>>
         (Front::Word(Keyword::New), after) => Ok((Value::New(rest.at), after)),
         (Front::Number(n), after) => Ok((Value::Number(n), after)),
         (Front::Word(Keyword::Mark), after) =>
-            within!(Value::Mark(rest.at, name); name = name_at(after)),
+            form!(Value::Mark(rest.at, name); name = name_at(after)),
         (Front::Word(Keyword::Unmark), after) =>
-            within!(Value::Unmark(rest.at, name); name = name_at(after)),
+            form!(Value::Unmark(rest.at, name); name = name_at(after)),
         (Front::Name(name), after) =>
-            within!(Value::Place(place); place = place_of_name_at(name, after)),
-        _ => Err(stuck(rest)),
+            form!(Value::Place(place); place = place_of_name_at(name, after)),
+        _ => Err(syntax_fault(rest)),
     }
 }
 
@@ -65,7 +65,7 @@ pub fn atom_at<'a>(rest: Rest<'a>) -> Read<'a, Atom<'a>>
         (Front::Word(Keyword::Null), after) => Ok((Atom::Null(rest.at), after)),
         (Front::Number(n), after) => Ok((Atom::Number(n), after)),
         (Front::Name(name), after) => Ok((Atom::Name(name), after)),
-        _ => Err(stuck(rest)),
+        _ => Err(syntax_fault(rest)),
     }
 }
 
@@ -77,7 +77,7 @@ fn ghost_value_at<'a>(rest: Rest<'a>) -> Read<'a, GhostValue<'a>>
         (Front::Name(name), after) => Ok((GhostValue::Name(name), after)),
         (Front::Word(Keyword::Me), after) => Ok((GhostValue::Me(rest.at), after)),
         (Front::Word(Keyword::None), after) => Ok((GhostValue::None(rest.at), after)),
-        _ => Err(stuck(rest)),
+        _ => Err(syntax_fault(rest)),
     }
 }
 
@@ -90,10 +90,10 @@ fn field_tail_at<'a>(name: Name<'a>, rest: Rest<'a>) -> Read<'a, Primitive<'a>>
         (field, rest) = name_at(rest);
         match at_front(rest) {
             (Front::Symbol(Symbol::Assign), after) =>
-                within!(Primitive::Set(Set::Field(name, field, atom)); atom = atom_at(after)),
+                form!(Primitive::Set(Set::Field(name, field, atom)); atom = atom_at(after)),
             (Front::Symbol(Symbol::Refresh), after) =>
-                within!(Primitive::Refresh(Refresh::Field(name, field, from)); from = name_at(after)),
-            _ => Err(stuck(rest)),
+                form!(Primitive::Refresh(Refresh::Field(name, field, from)); from = name_at(after)),
+            _ => Err(syntax_fault(rest)),
         }
     )
 }
@@ -105,11 +105,11 @@ pub fn named_tail_at<'a>(name: Name<'a>, rest: Rest<'a>) -> Read<'a, Primitive<'
 {
     match at_front(rest) {
         (Front::Symbol(Symbol::Assign), after) =>
-            within!(Primitive::Set(Set::Name(name, value)); value = value_at(after)),
+            form!(Primitive::Set(Set::Name(name, value)); value = value_at(after)),
         (Front::Symbol(Symbol::Refresh), after) =>
-            within!(Primitive::Refresh(Refresh::Name(name, place)); place = place_at(after)),
+            form!(Primitive::Refresh(Refresh::Name(name, place)); place = place_at(after)),
         (Front::Symbol(Symbol::Dot), after) => field_tail_at(name, after),
-        _ => Err(stuck(rest)),
+        _ => Err(syntax_fault(rest)),
     }
 }
 
@@ -120,7 +120,7 @@ pub fn ghost_set_at<'a>(rest: Rest<'a>) -> Read<'a, GhostSet<'a>>
     in_turn!(
         (name, after) = name_and_at(rest, Symbol::Dot);
         (field, after) = name_and_at(after, Symbol::Assign);
-        within!(GhostSet { name, field, value }; value = ghost_value_at(after))
+        form!(GhostSet { name, field, value }; value = ghost_value_at(after))
     )
 }
 
@@ -131,13 +131,13 @@ fn primitive_at<'a>(rest: Rest<'a>) -> Read<'a, Primitive<'a>>
     match at_front(rest) {
         (Front::Name(name), after) => named_tail_at(name, after),
         (Front::Word(Keyword::Ghost), after) =>
-            within!(Primitive::Ghost(set); set = ghost_set_at(after)),
+            form!(Primitive::Ghost(set); set = ghost_set_at(after)),
         (Front::Word(Keyword::Active), after) =>
-            within!(Primitive::Active(name); name = name_at(after)),
+            form!(Primitive::Active(name); name = name_at(after)),
         (Front::Word(Keyword::Assume), after) =>
-            within!(Primitive::Assume(test); test = test_at(after)),
+            form!(Primitive::Assume(test); test = test_at(after)),
         (Front::Word(Keyword::Skip), after) => Ok((Primitive::Skip, after)),
-        _ => Err(stuck(rest)),
+        _ => Err(syntax_fault(rest)),
     }
 }
 
@@ -145,7 +145,7 @@ fn primitive_at<'a>(rest: Rest<'a>) -> Read<'a, Primitive<'a>>
 pub fn primitive_line_at<'a>(rest: Rest<'a>) -> Read<'a, Primitive<'a>>
     ensures { Gives primitive_tree result (primitive_line_of rest.entry.at (kinds rest.entry.tokens.now)) }
 {
-    within!(primitive; primitive = primitive_at(rest), Semicolon)
+    form!(primitive; primitive = primitive_at(rest), Semicolon)
 }
 
 /// What stands between the parentheses of a call.
@@ -156,7 +156,7 @@ pub fn argument_at<'a>(rest: Rest<'a>) -> Read<'a, Argument<'a>>
         (Front::Word(Keyword::Null), after) => Ok((Argument::Null, after)),
         (Front::Name(name), after) => Ok((Argument::Name(name), after)),
         (Front::Word(Keyword::Active), after) =>
-            within!(Argument::Active(name); name = name_at(after)),
+            form!(Argument::Active(name); name = name_at(after)),
         _ => Ok((Argument::None, rest)),
     }
 }
@@ -166,7 +166,7 @@ pub fn during_at<'a>(rest: Rest<'a>) -> Read<'a, Option<Name<'a>>>
     ensures { Gives name_or_none result (during_of rest.entry.at (kinds rest.entry.tokens.now)) }
 {
     match at_front(rest) {
-        (Front::Word(Keyword::During), after) => within!(Some(name); name = name_at(after)),
+        (Front::Word(Keyword::During), after) => form!(Some(name); name = name_at(after)),
         _ => Ok((None, rest)),
     }
 }

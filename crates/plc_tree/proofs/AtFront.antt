@@ -37,9 +37,9 @@ stopped : (start : ℕ) (ts : Tokens) (n at : ℕ) → n ≡ fuel ts → outline
 stopped start ts n at l h =
     let stop = stuck_answer outline_then outline_of outline_law unplaced_outline (λ x at. outline_gets x at []) start ts
     n at l h in
-    let stuck = answer_is outline_then outline_of outline_law unplaced_outline (λ x at. outline_gets x at []) start ts n
+    let syntax_fault = answer_is outline_then outline_of outline_law unplaced_outline (λ x at. outline_gets x at []) start ts n
     (Err at) l h in
-    (stop.0, record { fault = stop.1; none = none_there start ts at stuck.read }, stop.2)
+    (stop.0, record { fault = stop.1; none = none_there start ts at syntax_fault.read }, stop.2)
 
 -- what the answer of the reader says
 module _ {A : Type 0} (view : A → OutlineTree) (start : ℕ) (ts : Tokens) (n : ℕ) (l : n ≡ fuel ts) where

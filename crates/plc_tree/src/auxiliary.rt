@@ -8,7 +8,9 @@ use crate::form::{Auxiliary, AuxiliaryKind};
 use crate::list::{braced_list_at, ended_list_at};
 use plc_base::Items;
 use plc_lex::{Keyword, Symbol};
-use plc_syntax::{Front, Initial, Placed, Read, Rest, at_front, in_turn, name_at, stuck, within};
+use plc_syntax::{
+    Front, Initial, Placed, Read, Rest, at_front, in_turn, name_at, syntax_fault, within,
+};
 use std::alloc::Global;
 
 /// The values of an auxiliary field, from after the opening brace.
@@ -17,7 +19,7 @@ fn values_at<'a>(alloc: Global, most: usize, rest: Rest<'a>) -> Read<'a, Auxilia
 {
     in_turn!(
         (first, after) = name_at(rest);
-        within!(
+        form!(
             AuxiliaryKind::OneOf(first, others);
             others = ended_list_at(alloc, most, after, Symbol::CloseBrace)
         )
@@ -31,7 +33,7 @@ fn ghost_kind_at<'a>(alloc: Global, most: usize, rest: Rest<'a>) -> Read<'a, Aux
     match at_front(rest) {
         (Front::Symbol(Symbol::OpenBrace), after) => values_at(alloc, most, after),
         (Front::Word(Keyword::Thread), after) => Ok((AuxiliaryKind::OfThreads, after)),
-        _ => Err(stuck(rest)),
+        _ => Err(syntax_fault(rest)),
     }
 }
 
@@ -41,7 +43,7 @@ fn ghost_tail_at<'a>(alloc: Global, most: usize, rest: Rest<'a>) -> Read<'a, Aux
 {
     in_turn!(
         (name, after) = name_at(rest);
-        within!(Auxiliary { name, kind }; kind = ghost_kind_at(alloc, most, after), Semicolon)
+        form!(Auxiliary { name, kind }; kind = ghost_kind_at(alloc, most, after), Semicolon)
     )
 }
 
@@ -51,7 +53,7 @@ pub fn ghost_at<'a>(alloc: Global, most: usize, rest: Rest<'a>) -> Read<'a, Auxi
 {
     match at_front(rest) {
         (Front::Word(Keyword::Ghost), after) => ghost_tail_at(alloc, most, after),
-        _ => Err(stuck(rest)),
+        _ => Err(syntax_fault(rest)),
     }
 }
 
@@ -65,7 +67,7 @@ pub fn init_at<'a>(
 {
     match at_front(rest) {
         (Front::Word(Keyword::Init), after) =>
-            within!(Some(sets); sets = braced_list_at(alloc, most, after)),
+            form!(Some(sets); sets = braced_list_at(alloc, most, after)),
         _ => Ok((None, rest)),
     }
 }

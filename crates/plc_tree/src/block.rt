@@ -16,7 +16,7 @@ use crate::statement::{
 };
 use crate::tree::{Block, Stmt};
 use plc_lex::{Keyword, Symbol};
-use plc_syntax::{Front, Placed, Read, Rest, at_front, in_turn, stuck, symbol_at, within};
+use plc_syntax::{Front, Placed, Read, Rest, at_front, in_turn, symbol_at, syntax_fault, within};
 use std::alloc::Global;
 
 /// Whether a statement begins with a word.
@@ -62,7 +62,7 @@ fn begins_or<'a>(rest: Rest<'a>) -> bool
 pub fn block_at<'a>(alloc: Global, most: usize, rest: Rest<'a>) -> Read<'a, Block<'a>>
     ensures { Gives (λ b. b) result (block_of most rest.entry.at (kinds rest.entry.tokens.now)) }
 {
-    within!(block; block = statements_at(alloc, most, rest), CloseBrace)
+    form!(block; block = statements_at(alloc, most, rest), CloseBrace)
 }
 
 /// A block with its opening brace.
@@ -80,7 +80,7 @@ fn braced_at<'a>(alloc: Global, most: usize, rest: Rest<'a>) -> Read<'a, Block<'
 fn loop_at<'a>(alloc: Global, most: usize, rest: Rest<'a>) -> Read<'a, Stmt<'a>>
     ensures { Gives statement_tree result (loop_of (block_of most) rest.entry.at (kinds rest.entry.tokens.now)) }
 {
-    within!(Stmt::Loop(block); block = braced_at(alloc, most, rest))
+    form!(Stmt::Loop(block); block = braced_at(alloc, most, rest))
 }
 
 /// An `else` and its block, which may be left out.
@@ -91,7 +91,7 @@ fn else_at<'a>(alloc: Global, most: usize, rest: Rest<'a>) -> Read<'a, Option<Bl
 {
     match at_front(rest) {
         (Front::Word(Keyword::Else), after) =>
-            within!(Some(block); block = braced_at(alloc, most, after)),
+            form!(Some(block); block = braced_at(alloc, most, after)),
         _ => Ok((None, rest)),
     }
 }
@@ -105,7 +105,7 @@ fn if_at<'a>(alloc: Global, most: usize, rest: Rest<'a>) -> Read<'a, Stmt<'a>>
     in_turn!(
         (condition, after) = guard_at(rest);
         (yes, after) = braced_at(alloc, most, after);
-        within!(Stmt::If { condition, yes, no }; no = else_at(alloc, most, after))
+        form!(Stmt::If { condition, yes, no }; no = else_at(alloc, most, after))
     )
 }
 
@@ -117,7 +117,7 @@ fn or_block_at<'a>(alloc: Global, most: usize, rest: Rest<'a>) -> Read<'a, Block
 {
     match at_front(rest) {
         (Front::Word(Keyword::Or), after) => braced_at(alloc, most, after),
-        _ => Err(stuck(rest)),
+        _ => Err(syntax_fault(rest)),
     }
 }
 
@@ -138,7 +138,7 @@ fn ors_at<'a>(alloc: Global, most: usize, start: Rest<'a>) -> Read<'a, Vec<Block
         others.push(block)?;
         rest = after;
     }
-    Err(stuck(rest))
+    Err(syntax_fault(rest))
 }
 
 /// A choice, from after its word.
@@ -151,7 +151,7 @@ fn choose_at<'a>(alloc: Global, most: usize, rest: Rest<'a>) -> Read<'a, Stmt<'a
     in_turn!(
         (first, after) = braced_at(alloc, most, rest);
         (second, after) = or_block_at(alloc, most, after);
-        within!(Stmt::Choose { first, second, others }; others = ors_at(alloc, most, after))
+        form!(Stmt::Choose { first, second, others }; others = ors_at(alloc, most, after))
     )
 }
 
@@ -191,5 +191,5 @@ fn statements_at<'a>(alloc: Global, most: usize, start: Rest<'a>) -> Read<'a, Bl
         stmts.push(Placed { at: rest.at, value })?;
         rest = after;
     }
-    Err(stuck(rest))
+    Err(syntax_fault(rest))
 }

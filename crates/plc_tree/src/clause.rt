@@ -17,7 +17,7 @@ pub fn clause_at<'a>(alloc: Global, most: usize, rest: Rest<'a>) -> Read<'a, Cla
     in_turn!(
         (bound, after) = bound_at(rest);
         (first, after) = literal_at(after);
-        within!(
+        form!(
             Clause { bound, first, others };
             others = ended_list_at(alloc, most, after, Symbol::Semicolon)
         )

@@ -23,7 +23,7 @@ use plc_base::Items;
 use plc_lex::{Keyword, Token};
 use plc_syntax::{
     Declaration, Fault, Function, Initial, Name, Placed, Read, Rest, Shared, Watch, in_turn,
-    name_at, stuck, watch_at, within, word_at,
+    name_at, syntax_fault, watch_at, within, word_at,
 };
 use std::alloc::Global;
 
@@ -71,7 +71,7 @@ fn struct_at<'a>(alloc: Global, most: usize, rest: Rest<'a>) -> Read<'a, Struct<
     in_turn!(
         after = word_at(rest, Keyword::Struct);
         (name, after) = name_at(after);
-        within!(Struct { name, fields }; fields = braced_list_at(alloc, most, after))
+        form!(Struct { name, fields }; fields = braced_list_at(alloc, most, after))
     )
 }
 
@@ -85,7 +85,7 @@ fn heading_at<'a>(alloc: Global, most: usize, rest: Rest<'a>) -> Read<'a, Headin
         (functions, after) = list_at(alloc, most, after);
         (watched, after) = watch_at(after);
         (auxiliaries, after) = list_at(alloc, most, after);
-        within!(
+        form!(
             Heading { node, pointers, functions, watched, auxiliaries, starts };
             starts = init_at(alloc, most, after)
         )
@@ -99,7 +99,7 @@ fn file_at<'a>(alloc: Global, most: usize, rest: Rest<'a>) -> Read<'a, File<'a>>
     in_turn!(
         (heading, after) = heading_at(alloc, most, rest);
         (operations, after) = list_at(alloc, most, after);
-        within!(File { heading, operations, outline }; outline = outlined_at(alloc, most, after))
+        form!(File { heading, operations, outline }; outline = outlined_at(alloc, most, after))
     )
 }
 
@@ -114,7 +114,7 @@ fn whole_file<'a>(alloc: Global, tokens: &'a [Token]) -> Result<File<'a>, Fault>
             if rest.tokens.is_empty() {
                 return Ok(file);
             }
-            Err(stuck(rest))
+            Err(syntax_fault(rest))
         }
         Err(fault) => Err(fault),
     }

@@ -9,7 +9,7 @@ ghost use Rattle.plc_tree.specs.Forms.{closed_of, braced_of};
 
 use plc_base::Items;
 use plc_lex::{Symbol, TokenKind};
-use plc_syntax::{Read, Rest, first, in_turn, stuck, symbol_at};
+use plc_syntax::{Read, Rest, first, in_turn, symbol_at, syntax_fault};
 use std::alloc::Global;
 
 /// What a list is made of.
@@ -64,7 +64,7 @@ pub fn list_at<'a, T: Listed<'a>>(alloc: Global, most: usize, start: Rest<'a>) -
         items.push(item)?;
         rest = after;
     }
-    Err(stuck(rest))
+    Err(syntax_fault(rest))
 }
 
 /// The items of a list and the symbol that ends it; at most so many items.

@@ -68,7 +68,7 @@ impl<'a> Listed<'a> for Placed<Primitive<'a>> {
     }
 
     fn read(_alloc: Global, _most: usize, rest: Rest<'a>) -> Read<'a, Placed<Primitive<'a>>> {
-        within!(Placed { at: rest.at, value }; value = primitive_line_at(rest))
+        form!(Placed { at: rest.at, value }; value = primitive_line_at(rest))
     }
 }
 
@@ -88,7 +88,7 @@ impl<'a> Listed<'a> for Placed<Initial<'a>> {
     }
 
     fn read(_alloc: Global, _most: usize, rest: Rest<'a>) -> Read<'a, Placed<Initial<'a>>> {
-        within!(Placed { at: rest.at, value }; value = initial_at(rest))
+        form!(Placed { at: rest.at, value }; value = initial_at(rest))
     }
 }
 
@@ -231,6 +231,6 @@ impl<'a> Listed<'a> for Placed<Operation<'a>> {
     }
 
     fn read(alloc: Global, most: usize, rest: Rest<'a>) -> Read<'a, Placed<Operation<'a>>> {
-        within!(Placed { at: rest.at, value }; value = op_at(alloc, most, rest))
+        form!(Placed { at: rest.at, value }; value = op_at(alloc, most, rest))
     }
 }

@@ -10,7 +10,8 @@ use crate::tree::Block;
 use plc_base::Items;
 use plc_lex::{Keyword, Symbol};
 use plc_syntax::{
-    Declaration, Front, Name, Read, Rest, at_front, in_turn, name_and_at, stuck, symbol_at, within,
+    Declaration, Front, Name, Read, Rest, at_front, in_turn, name_and_at, symbol_at, syntax_fault,
+    within,
 };
 use std::alloc::Global;
 
@@ -41,12 +42,12 @@ fn parameters_at<'a>(alloc: Global, most: usize, rest: Rest<'a>) -> Read<'a, Par
     ensures { Gives parameters_names result (parameters_of most rest.entry.at (kinds rest.entry.tokens.now)) }
 {
     match at_front(rest) {
-        (Front::Name(name), after) => within!(
+        (Front::Name(name), after) => form!(
             Parameters::Some(name, others);
             others = ended_list_at(alloc, most, after, Symbol::CloseParen)
         ),
         (Front::Symbol(Symbol::CloseParen), after) => Ok((Parameters::None, after)),
-        _ => Err(stuck(rest)),
+        _ => Err(syntax_fault(rest)),
     }
 }
 
@@ -59,7 +60,7 @@ fn op_tail_at<'a>(alloc: Global, most: usize, rest: Rest<'a>) -> Read<'a, Operat
         (parameters, after) = parameters_at(alloc, most, after);
         after = symbol_at(after, Symbol::OpenBrace);
         (locals, after) = list_at(alloc, most, after);
-        within!(Operation { name, parameters, locals, body }; body = block_at(alloc, most, after))
+        form!(Operation { name, parameters, locals, body }; body = block_at(alloc, most, after))
     )
 }
 
@@ -69,6 +70,6 @@ pub fn op_at<'a>(alloc: Global, most: usize, rest: Rest<'a>) -> Read<'a, Operati
 {
     match at_front(rest) {
         (Front::Word(Keyword::Op), after) => op_tail_at(alloc, most, after),
-        _ => Err(stuck(rest)),
+        _ => Err(syntax_fault(rest)),
     }
 }

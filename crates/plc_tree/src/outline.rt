@@ -12,8 +12,8 @@ use crate::form::{Item, Outline};
 use crate::list::ended_list_at;
 use plc_lex::{Keyword, Symbol};
 use plc_syntax::{
-    Front, Read, Rest, at_front, depth_at, in_turn, name_and_at, name_at, stuck, symbol_at, within,
-    word_at,
+    Front, Read, Rest, at_front, depth_at, in_turn, name_and_at, name_at, symbol_at, syntax_fault,
+    within, word_at,
 };
 use std::alloc::Global;
 
@@ -23,7 +23,7 @@ fn over_item_at<'a>(alloc: Global, most: usize, rest: Rest<'a>) -> Read<'a, Item
 {
     in_turn!(
         (name, after) = name_and_at(rest, Symbol::Colon);
-        within!(Item::Over(name, clause); clause = clause_at(alloc, most, after))
+        form!(Item::Over(name, clause); clause = clause_at(alloc, most, after))
     )
 }
 
@@ -34,7 +34,7 @@ fn at_item_at<'a>(alloc: Global, most: usize, rest: Rest<'a>) -> Read<'a, Item<'
     in_turn!(
         (name, after) = name_at(rest);
         (others, after) = ended_list_at(alloc, most, after, Symbol::Colon);
-        within!(Item::At(name, others, clause); clause = clause_at(alloc, most, after))
+        form!(Item::At(name, others, clause); clause = clause_at(alloc, most, after))
     )
 }
 
@@ -44,10 +44,10 @@ pub fn item_at<'a>(alloc: Global, most: usize, rest: Rest<'a>) -> Read<'a, Item<
 {
     match at_front(rest) {
         (Front::Word(Keyword::Inv), after) =>
-            within!(Item::Invariant(clause); clause = clause_at(alloc, most, after)),
+            form!(Item::Invariant(clause); clause = clause_at(alloc, most, after)),
         (Front::Word(Keyword::Over), after) => over_item_at(alloc, most, after),
         (Front::Word(Keyword::At), after) => at_item_at(alloc, most, after),
-        _ => Err(stuck(rest)),
+        _ => Err(syntax_fault(rest)),
     }
 }
 
@@ -58,7 +58,7 @@ fn outline_tail_at<'a>(alloc: Global, most: usize, rest: Rest<'a>) -> Read<'a, O
     in_turn!(
         after = symbol_at(rest, Symbol::OpenBrace);
         (depth, after) = depth_at(after);
-        within!(
+        form!(
             Outline { depth, items };
             items = ended_list_at(alloc, most, after, Symbol::CloseBrace)
         )
@@ -91,7 +91,7 @@ pub fn outlined_at<'a>(alloc: Global, most: usize, rest: Rest<'a>) -> Read<'a, O
 {
     match at_front(rest) {
         (Front::Word(Keyword::Outline), after) =>
-            within!(Some(outline); outline = outline_tail_at(alloc, most, after)),
+            form!(Some(outline); outline = outline_tail_at(alloc, most, after)),
         _ => Ok((None, rest)),
     }
 }

@@ -21,7 +21,7 @@ fn call_at<'a>(name: Name<'a>, rest: Rest<'a>) -> Read<'a, Stmt<'a>>
     in_turn!(
         (argument, after) = argument_at(rest);
         after = symbol_at(after, Symbol::CloseParen);
-        within!(Stmt::Call { name, argument, during }; during = during_at(after), Semicolon)
+        form!(Stmt::Call { name, argument, during }; during = during_at(after), Semicolon)
     )
 }
 
@@ -32,7 +32,7 @@ pub fn named_statement_at<'a>(name: Name<'a>, rest: Rest<'a>) -> Read<'a, Stmt<'
 {
     match at_front(rest) {
         (Front::Symbol(Symbol::OpenParen), after) => call_at(name, after),
-        _ => within!(Stmt::Primitive(primitive); primitive = named_tail_at(name, rest), Semicolon),
+        _ => form!(Stmt::Primitive(primitive); primitive = named_tail_at(name, rest), Semicolon),
     }
 }
 
@@ -40,7 +40,7 @@ pub fn named_statement_at<'a>(name: Name<'a>, rest: Rest<'a>) -> Read<'a, Stmt<'
 pub fn atomic_at<'a>(alloc: Global, most: usize, rest: Rest<'a>) -> Read<'a, Stmt<'a>>
     ensures { Gives statement_tree result (atomic_of most rest.entry.at (kinds rest.entry.tokens.now)) }
 {
-    within!(Stmt::Atomic(primitives); primitives = braced_list_at(alloc, most, rest))
+    form!(Stmt::Atomic(primitives); primitives = braced_list_at(alloc, most, rest))
 }
 
 /// A statement and its semicolon, from after its word.
@@ -55,7 +55,7 @@ pub fn ended_at<'a>(stmt: Stmt<'a>, rest: Rest<'a>) -> Read<'a, Stmt<'a>>
 pub fn label_at<'a>(rest: Rest<'a>) -> Read<'a, Stmt<'a>>
     ensures { Gives statement_tree result (label_of rest.entry.at (kinds rest.entry.tokens.now)) }
 {
-    within!(Stmt::Label(name); name = name_and_at(rest, Symbol::Semicolon))
+    form!(Stmt::Label(name); name = name_and_at(rest, Symbol::Semicolon))
 }
 
 /// The condition of an `if` and its parentheses.
@@ -64,7 +64,7 @@ pub fn guard_at<'a>(rest: Rest<'a>) -> Read<'a, Condition<'a>>
 {
     in_turn!(
         after = symbol_at(rest, Symbol::OpenParen);
-        within!(condition; condition = condition_at(after), CloseParen)
+        form!(condition; condition = condition_at(after), CloseParen)
     )
 }
 
@@ -72,5 +72,5 @@ pub fn guard_at<'a>(rest: Rest<'a>) -> Read<'a, Condition<'a>>
 pub fn primitive_statement_at<'a>(rest: Rest<'a>) -> Read<'a, Stmt<'a>>
     ensures { Gives statement_tree result (step_of rest.entry.at (kinds rest.entry.tokens.now)) }
 {
-    within!(Stmt::Primitive(primitive); primitive = primitive_line_at(rest))
+    form!(Stmt::Primitive(primitive); primitive = primitive_line_at(rest))
 }

@@ -14,7 +14,7 @@ use plc_base::NoMemory;
 use plc_flow::Flow;
 use plc_ground::{Node, Tree, closes};
 use plc_logic::Outline;
-use plc_oblig::{Annotated, Grounding, Noted, Obligation, Walk, annotate, count};
+use plc_oblig::{AlikeObligations, Annotated, Grounding, Obligation, Walk, annotate, count};
 use std::alloc::Global;
 
 /// What is said to show that the outline of a program holds: trees, one for each of its obligations in order.
@@ -32,7 +32,7 @@ fn are_same(a: &[Node], b: &[Node]) -> bool
 }
 
 /// Whether this tree was found to close the set of an obligation that is alike.
-fn is_tried(evidence: &Evidence, tried: &Noted, o: &Obligation, tree: &Tree) -> bool
+fn is_tried(evidence: &Evidence, tried: &AlikeObligations, o: &Obligation, tree: &Tree) -> bool
     requires { TriedClose evidence.now tried.now }
     ensures { IsTrue result → ClosesSetOf evidence.now o.now tree.now.nodes }
 {
@@ -65,7 +65,7 @@ fn first_bad_node(
 /// tree's first bad node.
 fn try_tree(
     memory: &mut Grounding,
-    tried: &mut Noted,
+    tried: &mut AlikeObligations,
     evidence: &Evidence,
     o: &Obligation,
     at: usize,
@@ -90,7 +90,7 @@ fn try_tree(
 /// Tries each tree in order, over the walk from the first obligation on.
 fn try_each(
     memory: &mut Grounding,
-    tried: &mut Noted,
+    tried: &mut AlikeObligations,
     walk: &mut Walk,
     evidence: &Evidence,
 ) -> Result<(), VerifyFault>
@@ -121,7 +121,7 @@ fn try_trees(alloc: Global, evidence: &Evidence) -> Result<(), VerifyFault>
 {
     let mut walk = Walk::new(alloc, evidence.program.flow, evidence.program.outline)?;
     let mut memory = Grounding::new(alloc);
-    let mut tried = Noted::new(alloc);
+    let mut tried = AlikeObligations::new(alloc);
     try_each(&mut memory, &mut tried, &mut walk, evidence)
 }
 

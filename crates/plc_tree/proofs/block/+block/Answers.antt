@@ -45,7 +45,7 @@ pub statements_at-returns : goal.statements_at-returns
 statements_at-returns t c =
     let l = c.loop-i in
     let none : c.args.most - l.i ≡ 0 = omega (arith, c.loop-i-test.false) in
-    rw c.stuck.ensures
+    rw c.syntax_fault.ensures
     (statements_out (c.args.most - l.i) l.rest.at (kinds l.rest.tokens.now) l.stmts.items _ none l.invariant)
 
 pub ors_at-returns-then-not-begins_or : goal.ors_at-returns-then-not-begins_or
@@ -82,5 +82,5 @@ pub ors_at-returns : goal.ors_at-returns
 ors_at-returns t c =
     let l = c.loop-i in
     let none : c.args.most - l.i ≡ 0 = omega (arith, c.loop-i-test.false) in
-    rw c.stuck.ensures
+    rw c.syntax_fault.ensures
     (ors_out (c.args.most - l.i) l.rest.at (kinds l.rest.tokens.now) l.others.items _ none l.invariant)

@@ -16,7 +16,7 @@ pub returns-else-is_empty-clause-fault : goal.returns-else-is_empty-clause-fault
 returns-else-is_empty-clause-fault c =
     let r = c.in-Ok.rest in
     let n = kinds_length c.args.tokens.now in
-    rw c.stuck.ensures
+    rw c.syntax_fault.ensures
     (file_left (kinds c.args.tokens.now) _ (file_tree c.in-Ok.file) r.at (kinds r.tokens.now) (omega arith)
     c.in-Ok.ensures (some_left r.tokens.now (sym c.is_empty.ensures ∙ c.if-is_empty.false)))
 

@@ -45,5 +45,5 @@ returns g c =
     let l = c.loop-i in
     let t = g.T.Listed in
     let none : c.args.most - l.i ≡ 0 = omega (arith, c.loop-i-test.false) in
-    rw c.stuck.ensures (list_out t.tree t.starts t.of (c.args.most - l.i) l.rest.at (kinds l.rest.tokens.now) l.items _
+    rw c.syntax_fault.ensures (list_out t.tree t.starts t.of (c.args.most - l.i) l.rest.at (kinds l.rest.tokens.now) l.items _
     none l.invariant)

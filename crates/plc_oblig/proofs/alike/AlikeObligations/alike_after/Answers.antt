@@ -1,6 +1,6 @@
 use Rattle.std.proofs.Common.{sym, ◌∙◌}
 use Rattle.plc_oblig.proofs.OneSet.{alike_sets}
-use Rattle.plc_oblig.proofs.alike.Noted.alike_after.Goals as goal
+use Rattle.plc_oblig.proofs.alike.AlikeObligations.alike_after.Goals as goal
 
 pub returns-then-are_alike : goal.returns-then-are_alike
 returns-then-are_alike c = (

@@ -1,6 +1,6 @@
 use Rattle.std.proofs.Common.{◌≡◌, ap, map, refl}
 use Rattle.plc_cli.specs.Program.{own_names}
-use Rattle.plc_cli.proofs.own.run_under.Goals as goal
+use Rattle.plc_cli.proofs.own.run_with.Goals as goal
 
 pub returns-clause-ok : goal.returns-clause-ok
 returns-clause-ok g c =
