@@ -19,7 +19,7 @@ use plc_check::{Judged, LoadFault, Loaded, Verdict, check, load_with_tokens, ope
 use plc_cli::{refusal, verdict_status, verdict_text};
 use plc_html::{Html, Subject, whole_page};
 use plc_infer::{Typing, pretyping};
-use plc_sentences::Clauses;
+use plc_sentences::{Clauses, Source};
 use std::alloc::Global;
 
 /// A page, with the status of the answer that it shows.
@@ -89,7 +89,11 @@ fn rest_of(alloc: Global, answered: Answered) -> Result<Html, NoMemory>
     requires { Fits answered.loaded.now.judged.flow answered.loaded.now.judged.unit_outline }
 {
     let judged = &answered.loaded.judged;
-    let clauses = Clauses::read(alloc, answered.loaded.tokens.as_slice())?;
+    let source = Source {
+        bytes: answered.bytes,
+        tokens: answered.loaded.tokens.as_slice(),
+    };
+    let clauses = Clauses::read(alloc, source)?;
     let typing = pretyping(alloc, &judged.flow, &judged.observer)?;
     let shown = Shown {
         bytes: answered.bytes,

@@ -16,7 +16,7 @@ use plc_check::{
 use plc_cli::{refusal, verdict_status};
 use plc_flow::Flow;
 use plc_oblig::Obligation;
-use plc_sentences::{Clauses, clause_of, push_obligation, push_untyped};
+use plc_sentences::{Clauses, Source, clause_of, push_obligation, push_untyped};
 use plc_suggest::{Spot, SuggestFault, Suggestion, suggest};
 use plc_xfer::TypeFault;
 use std::alloc::{AllocError, Global};
@@ -77,21 +77,14 @@ fn line_of_clause(judged: &Judged, clauses: &Clauses, o: &Obligation) -> u32 {
 /// The line of an obligation that stays open.
 fn push_open(
     out: &mut Vec<u8>,
-    file: Named,
+    name: &[u8],
     judged: &Judged,
     clauses: &Clauses,
     open: &Counterexample,
 ) -> Result<(), AllocError> {
     let o = &open.obligation;
-    push_place(out, file.name, line_of_obligation(judged, clauses, o))?;
-    push_obligation(
-        out,
-        &judged.flow,
-        &judged.unit_outline,
-        clauses,
-        file.bytes,
-        o,
-    )?;
+    push_place(out, name, line_of_obligation(judged, clauses, o))?;
+    push_obligation(out, &judged.flow, &judged.unit_outline, clauses, o)?;
     push(out, "\n")
 }
 
@@ -113,10 +106,14 @@ fn push_all_open(
 ) -> Result<(), NoMemory>
     requires { Fits loaded.now.judged.flow loaded.now.judged.unit_outline }
 {
-    let clauses = Clauses::read(alloc, loaded.tokens.as_slice())?;
+    let source = Source {
+        bytes: file.bytes,
+        tokens: loaded.tokens.as_slice(),
+    };
+    let clauses = Clauses::read(alloc, source)?;
     let open = open_obligations(alloc, &loaded.judged, MOST_SHOWN)?;
     for found in open.found.as_slice() {
-        push_open(out, file, &loaded.judged, &clauses, found)?;
+        push_open(out, file.name, &loaded.judged, &clauses, found)?;
     }
     push_end(out, file.name, open.all)?;
     Ok(())

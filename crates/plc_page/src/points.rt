@@ -5,7 +5,7 @@ use plc_base::{OpId, PointId, StepId};
 use plc_flow::{Flow, Gate, Step};
 use plc_html::{Html, Tag};
 use plc_lang::operation_name;
-use plc_sentences::{ClauseId, clauses_at, nth_of, push_point, push_source, push_step};
+use plc_sentences::{ClauseId, clauses_at, nth_of, push_point, push_step};
 
 /// A step that leaves a point.
 fn push_leaving(html: &mut Html, flow: &Flow, id: StepId, step: &Step) -> Written {
@@ -38,7 +38,7 @@ pub(crate) fn push_clause(html: &mut Html, shown: &Shown, id: ClauseId) -> Writt
         return Ok(());
     };
     let mut text = Vec::new(html.alloc());
-    push_source(&mut text, shown.bytes, placed.span)?;
+    shown.clauses.push_text(&mut text, placed)?;
     html.markup("<code>")?;
     html.text(&text)?;
     html.markup("</code> (")?;

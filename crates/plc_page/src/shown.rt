@@ -16,7 +16,7 @@ pub(crate) struct Shown<'a> {
     /// What is judged of them.
     pub(crate) judged: &'a Judged,
     /// Where the clauses of its outline stand.
-    pub(crate) clauses: &'a Clauses,
+    pub(crate) clauses: &'a Clauses<'a>,
     /// What is known at each point: the strongest pre-typing.
     pub(crate) typing: &'a Typing,
 }

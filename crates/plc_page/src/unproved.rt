@@ -104,7 +104,6 @@ fn push_open(html: &mut Html, shown: &Shown, open: &Counterexample, first: bool)
         &judged.flow,
         &judged.unit_outline,
         shown.clauses,
-        shown.bytes,
         &open.obligation,
     )?;
     html.markup(if first {

@@ -7,29 +7,23 @@ ghost use Rattle.plc_vocabulary.specs.Points.{clauses_at};
 ghost use Rattle.plc_vocabulary.specs.Parts.{clauses_after, conclusion};
 ghost use Rattle.plc_sentences.specs.Clauses.{clause_named, numbers_at, most_items};
 
-use plc_base::{Items, NoMemory, Span, StepId};
+use crate::source::{Placed, Source, push_source};
+use plc_base::{Items, NoMemory, StepId};
 use plc_flow::Flow;
 use plc_lex::{Keyword, Symbol, Token, TokenKind};
 use plc_logic::Outline;
 use plc_vocabulary::{Obligation, is_labelled, stands_at};
-use std::alloc::Global;
+use std::alloc::{AllocError, Global};
 
-/// Where the clauses of an outline stand in the file.
+/// Where the clauses of an outline stand in its file.
 #[derive(Drop)]
-pub struct Clauses {
+pub struct Clauses<'a> {
+    /// The file.
+    source: Source<'a>,
     /// One for each invariant, from the word `inv` to before the semicolon.
-    pub invariants: Items<Placed>,
+    invariants: Items<Placed>,
     /// One for each clause at points, from the word `over` or `at` to before the semicolon.
-    pub items: Items<Placed>,
-}
-
-/// Where something stands in the file.
-#[derive(Clone, Copy)]
-pub struct Placed {
-    /// From its first token to the end of its last one.
-    pub span: Span,
-    /// The line of its first token.
-    pub line: u32,
+    items: Items<Placed>,
 }
 
 /// A clause of an outline.
@@ -41,65 +35,46 @@ pub enum ClauseId {
     Item(u16),
 }
 
-/// An item of the outline as far as it was read.
+/// An item of the outline that was begun: whether it is an invariant, and the number and the line of its first token.
 #[derive(Clone, Copy)]
 struct OpenItem {
     invariant: bool,
-    placed: Placed,
-}
-
-/// An item that begins with this token.
-fn item_from(token: &Token, invariant: bool) -> Option<OpenItem> {
-    Some(OpenItem {
-        invariant,
-        placed: Placed {
-            span: token.span,
-            line: token.line,
-        },
-    })
+    first: usize,
+    line: u32,
 }
 
 /// The item that begins with this token, if one does. The three words stand nowhere but there.
-fn item_begun_by(token: &Token) -> Option<OpenItem> {
-    match token.kind {
-        TokenKind::Word(Keyword::Inv) => item_from(token, true),
-        TokenKind::Word(Keyword::Over | Keyword::At) => item_from(token, false),
-        _ => None,
-    }
-}
-
-/// The item with one token more.
-fn lengthened(item: OpenItem, token: &Token) -> OpenItem {
-    let span = Span {
-        start: item.placed.span.start,
-        end: token.span.end,
+fn item_begun_by(number: usize, token: &Token) -> Option<OpenItem> {
+    let invariant = match token.kind {
+        TokenKind::Word(Keyword::Inv) => true,
+        TokenKind::Word(Keyword::Over | Keyword::At) => false,
+        _ => return None,
     };
-    OpenItem {
-        invariant: item.invariant,
-        placed: Placed {
-            span,
-            line: item.placed.line,
-        },
-    }
+    Some(OpenItem {
+        invariant,
+        first: number,
+        line: token.line,
+    })
 }
 
-impl Clauses {
-    /// Where each clause of the outline at the end of a file stands, given the tokens of the file. `depth N;` is no
-    /// clause. The one error is that memory runs out.
-    pub fn read(alloc: Global, tokens: &[Token]) -> Result<Clauses, NoMemory> {
+impl<'a> Clauses<'a> {
+    /// Where each clause of the outline at the end of a file stands. `depth N;` is no clause. The one error is that
+    /// memory runs out.
+    pub fn read(alloc: Global, source: Source<'a>) -> Result<Clauses<'a>, NoMemory> {
         let mut clauses = Clauses {
+            source,
             invariants: Items::new(alloc),
             items: Items::new(alloc),
         };
-        clauses.note_all(tokens)?;
+        clauses.note_all(source.tokens)?;
         Ok(clauses)
     }
 
     /// Notes the items that these tokens spell.
     fn note_all(&mut self, tokens: &[Token]) -> Result<(), NoMemory> {
         let mut item = None;
-        for token in tokens {
-            item = self.note(item, token)?;
+        for (number, token) in tokens.iter().enumerate() {
+            item = self.note(item, number, token)?;
         }
         Ok(())
     }
@@ -108,24 +83,30 @@ impl Clauses {
     fn note(
         &mut self,
         item: Option<OpenItem>,
+        number: usize,
         token: &Token,
     ) -> Result<Option<OpenItem>, NoMemory> {
         let Some(item) = item else {
-            return Ok(item_begun_by(token));
+            return Ok(item_begun_by(number, token));
         };
         if !matches!(token.kind, TokenKind::Symbol(Symbol::Semicolon)) {
-            return Ok(Some(lengthened(item, token)));
+            return Ok(Some(item));
         }
-        self.add(item)?;
+        self.add(item, number)?;
         Ok(None)
     }
 
-    /// Adds an item that is read to its end.
-    fn add(&mut self, item: OpenItem) -> Result<(), NoMemory> {
+    /// Adds an item that ends before the token with a number.
+    fn add(&mut self, item: OpenItem, end: usize) -> Result<(), NoMemory> {
+        let placed = Placed {
+            first: item.first,
+            end,
+            line: item.line,
+        };
         if item.invariant {
-            self.invariants.push(item.placed)?;
+            self.invariants.push(placed)?;
         } else {
-            self.items.push(item.placed)?;
+            self.items.push(placed)?;
         }
         Ok(())
     }
@@ -136,6 +117,11 @@ impl Clauses {
             ClauseId::Invariant(k) => self.invariants.get(k as usize).copied(),
             ClauseId::Item(k) => self.items.get(k as usize).copied(),
         }
+    }
+
+    /// The text of what stands there, as the file has it. The one error is that memory runs out.
+    pub fn push_text(&self, out: &mut Vec<u8>, placed: Placed) -> Result<(), AllocError> {
+        push_source(out, self.source, placed)
     }
 }
 

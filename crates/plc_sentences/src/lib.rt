@@ -12,11 +12,11 @@ mod steps;
 mod types;
 mod untyped;
 
-pub use clauses::{ClauseId, Clauses, Placed, clause_of, clauses_at};
+pub use clauses::{ClauseId, Clauses, clause_of, clauses_at};
 pub use obligations::push_obligation;
 pub use points::push_point;
 pub use primitives::push_primitive;
-pub use source::push_source;
+pub use source::{Placed, Source};
 pub use steps::{nth_of, push_step};
 pub use types::{push_anywhere, push_type};
 pub use untyped::{advice, push_untyped};

@@ -4,7 +4,6 @@
 use crate::clauses::{ClauseId, Clauses, clause_of};
 use crate::points::{operation_of, push_point};
 use crate::primitives::push_primitive;
-use crate::source::push_source;
 use crate::steps::{locals_of_step, push_deeds};
 use plc_answers::{push, push_bytes, push_numbered};
 use plc_base::{OpId, PointId, StepId};
@@ -22,8 +21,7 @@ type Written = Result<(), AllocError>;
 struct Subject<'a> {
     flow: &'a Flow,
     outline: &'a Outline,
-    clauses: &'a Clauses,
-    bytes: &'a [u8],
+    clauses: &'a Clauses<'a>,
 }
 
 /// The line of a clause, and its text.
@@ -32,7 +30,7 @@ fn push_placed(out: &mut Vec<u8>, about: &Subject, id: ClauseId) -> Written {
         Some(placed) => {
             push_numbered(out, " in line ", placed.line)?;
             push(out, " (`")?;
-            push_source(out, about.bytes, placed.span)?;
+            about.clauses.push_text(out, placed)?;
             push(out, "`)")
         }
         None => Ok(()),
@@ -216,14 +214,12 @@ pub fn push_obligation(
     flow: &Flow,
     outline: &Outline,
     clauses: &Clauses,
-    bytes: &[u8],
     o: &Obligation,
 ) -> Result<(), AllocError> {
     let about = Subject {
         flow,
         outline,
         clauses,
-        bytes,
     };
     match *o {
         Obligation::Start { .. } => push_start(out, &about, clause_of(flow, outline, o)),

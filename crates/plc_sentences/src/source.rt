@@ -1,57 +1,59 @@
 // Pieces of the file's own text. A clause may go over several lines and have comments between its words, so all that
-// stands between two words is shown as one space.
+// stands between two tokens is shown as one space.
 use plc_answers::{push, push_bytes};
 use plc_base::Span;
+use plc_lex::Token;
 use std::alloc::AllocError;
 
-/// What a byte stands in.
+/// The bytes of a file, and the tokens that they spell.
 #[derive(Clone, Copy)]
-enum Within {
-    Word,
-    Space,
-    /// From `//` to the end of the line. No token has a `/`, so the first one is enough.
-    Comment,
+pub struct Source<'a> {
+    pub bytes: &'a [u8],
+    pub tokens: &'a [Token],
 }
 
-/// What a byte stands in, after one that stands in this.
-fn next(before: Within, byte: u8) -> Within {
-    match (before, byte) {
-        (Within::Comment, b'\n') => Within::Space,
-        (Within::Comment, _) => Within::Comment,
-        (_, b'/') => Within::Comment,
-        (_, b' ' | b'\t' | b'\r' | b'\n') => Within::Space,
-        _ => Within::Word,
-    }
+/// Where something stands in a file.
+#[derive(Clone, Copy)]
+pub struct Placed {
+    /// The number of its first token.
+    pub first: usize,
+    /// That of the token after its last one.
+    pub end: usize,
+    /// The line of its first token.
+    pub line: u32,
 }
 
 /// The bytes of a span; none where it doesn't lie within these.
 fn bytes_of(bytes: &[u8], span: Span) -> &[u8] {
-    let (start, end) = (span.start as usize, span.end as usize);
-    if start <= end && end <= bytes.len() {
-        &bytes[start..end]
-    } else {
-        &[]
-    }
+    bytes
+        .get(span.start as usize..span.end as usize)
+        .unwrap_or(&[])
 }
 
-/// A byte of a word, after a space where the word begins.
-fn push_byte(out: &mut Vec<u8>, before: Within, byte: u8) -> Result<(), AllocError> {
-    if !matches!(before, Within::Word) {
+/// A token's own bytes, after a space where it doesn't begin at the end of the one before.
+fn push_token(
+    out: &mut Vec<u8>,
+    source: Source,
+    before: Option<u32>,
+    span: Span,
+) -> Result<(), AllocError> {
+    if before.is_some_and(|end| end != span.start) {
         push(out, " ")?;
     }
-    push_bytes(out, &[byte])
+    push_bytes(out, bytes_of(source.bytes, span))
 }
 
-/// The file's own text of a span, which begins with a token: its bytes, where each run of white space and comments is
-/// one space, and what stands after the last word is left out. The one error is that memory runs out.
-pub fn push_source(out: &mut Vec<u8>, bytes: &[u8], span: Span) -> Result<(), AllocError> {
-    let mut before = Within::Word;
-    for byte in bytes_of(bytes, span) {
-        let here = next(before, *byte);
-        if matches!(here, Within::Word) {
-            push_byte(out, before, *byte)?;
-        }
-        before = here;
+/// The file's own text of what stands somewhere: its tokens, with one space where the file has white space or comments
+/// between two. The one error is that memory runs out.
+pub(crate) fn push_source(
+    out: &mut Vec<u8>,
+    source: Source,
+    placed: Placed,
+) -> Result<(), AllocError> {
+    let mut before = None;
+    for token in source.tokens.get(placed.first..placed.end).unwrap_or(&[]) {
+        push_token(out, source, before, token.span)?;
+        before = Some(token.span.end);
     }
     Ok(())
 }
