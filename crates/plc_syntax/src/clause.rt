@@ -12,7 +12,7 @@ use crate::front::{
 };
 use crate::rest::Rest;
 use crate::statement::{place_at, place_of_name_at};
-use crate::{in_turn, within};
+use crate::{form, in_turn};
 use plc_lex::{Keyword, Symbol};
 
 /// A side of an equation.

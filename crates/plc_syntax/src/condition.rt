@@ -11,7 +11,7 @@ use crate::front::{
 };
 use crate::rest::Rest;
 use crate::statement::{atom_at, place_at};
-use crate::{in_turn, within};
+use crate::{form, in_turn};
 use plc_lex::{Keyword, Symbol};
 
 /// What stands between the sides of a test.

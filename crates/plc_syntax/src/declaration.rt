@@ -13,7 +13,7 @@ use crate::front::{
 };
 use crate::rest::Rest;
 use crate::statement::{atom_at, ghost_set_at, value_at};
-use crate::{in_turn, within};
+use crate::{form, in_turn};
 use plc_lex::{Keyword, Symbol};
 
 /// A field of the struct or a local.

@@ -14,7 +14,7 @@ use crate::form::{
 };
 use crate::front::{Front, Read, at_front, name_and_at, name_at, syntax_fault};
 use crate::rest::Rest;
-use crate::{in_turn, within};
+use crate::{form, in_turn};
 use plc_lex::{Keyword, Symbol};
 
 /// A place, from after its name.

@@ -9,7 +9,7 @@ use crate::list::{braced_list_at, ended_list_at};
 use plc_base::Items;
 use plc_lex::{Keyword, Symbol};
 use plc_syntax::{
-    Front, Initial, Placed, Read, Rest, at_front, in_turn, name_at, syntax_fault, within,
+    Front, Initial, Placed, Read, Rest, at_front, form, in_turn, name_at, syntax_fault,
 };
 use std::alloc::Global;
 

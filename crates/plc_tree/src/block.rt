@@ -16,7 +16,7 @@ use crate::statement::{
 };
 use crate::tree::{Block, Stmt};
 use plc_lex::{Keyword, Symbol};
-use plc_syntax::{Front, Placed, Read, Rest, at_front, in_turn, symbol_at, syntax_fault, within};
+use plc_syntax::{Front, Placed, Read, Rest, at_front, form, in_turn, symbol_at, syntax_fault};
 use std::alloc::Global;
 
 /// Whether a statement begins with a word.

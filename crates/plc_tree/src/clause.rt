@@ -7,7 +7,7 @@ ghost use Rattle.plc_tree.specs.FormViews.{clause_tree};
 use crate::form::Clause;
 use crate::list::ended_list_at;
 use plc_lex::Symbol;
-use plc_syntax::{Read, Rest, bound_at, in_turn, literal_at, within};
+use plc_syntax::{Read, Rest, bound_at, form, in_turn, literal_at};
 use std::alloc::Global;
 
 /// A clause and its semicolon.

@@ -22,8 +22,8 @@ use crate::outline::outlined_at;
 use plc_base::Items;
 use plc_lex::{Keyword, Token};
 use plc_syntax::{
-    Declaration, Fault, Function, Initial, Name, Placed, Read, Rest, Shared, Watch, in_turn,
-    name_at, syntax_fault, watch_at, within, word_at,
+    Declaration, Fault, Function, Initial, Name, Placed, Read, Rest, Shared, Watch, form, in_turn,
+    name_at, syntax_fault, watch_at, word_at,
 };
 use std::alloc::Global;
 

@@ -21,8 +21,8 @@ use crate::outline::item_at;
 use plc_lex::{Keyword, Symbol, TokenKind};
 use plc_syntax::{
     Declaration, Function, Initial, Literal, Name, Placed, Primitive, Read, Rest, Shared,
-    comma_name_at, field_at, function_at, initial_at, or_literal_at, primitive_line_at, shared_at,
-    within,
+    comma_name_at, field_at, form, function_at, initial_at, or_literal_at, primitive_line_at,
+    shared_at,
 };
 use std::alloc::Global;
 

@@ -10,8 +10,8 @@ use crate::tree::Block;
 use plc_base::Items;
 use plc_lex::{Keyword, Symbol};
 use plc_syntax::{
-    Declaration, Front, Name, Read, Rest, at_front, in_turn, name_and_at, symbol_at, syntax_fault,
-    within,
+    Declaration, Front, Name, Read, Rest, at_front, form, in_turn, name_and_at, symbol_at,
+    syntax_fault,
 };
 use std::alloc::Global;
 

@@ -12,8 +12,8 @@ use crate::form::{Item, Outline};
 use crate::list::ended_list_at;
 use plc_lex::{Keyword, Symbol};
 use plc_syntax::{
-    Front, Read, Rest, at_front, depth_at, in_turn, name_and_at, name_at, symbol_at, syntax_fault,
-    within, word_at,
+    Front, Read, Rest, at_front, depth_at, form, in_turn, name_and_at, name_at, symbol_at,
+    syntax_fault, word_at,
 };
 use std::alloc::Global;
 

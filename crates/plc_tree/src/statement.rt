@@ -9,8 +9,8 @@ use crate::list::braced_list_at;
 use crate::tree::Stmt;
 use plc_lex::Symbol;
 use plc_syntax::{
-    Condition, Front, Name, Read, Rest, argument_at, at_front, condition_at, during_at, in_turn,
-    name_and_at, named_tail_at, primitive_line_at, symbol_at, within,
+    Condition, Front, Name, Read, Rest, argument_at, at_front, condition_at, during_at, form,
+    in_turn, name_and_at, named_tail_at, primitive_line_at, symbol_at,
 };
 use std::alloc::Global;
 
