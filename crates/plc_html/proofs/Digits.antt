@@ -1,6 +1,7 @@
 -- A text without digits that stands in a text with a number in it stands before the number or behind it.
 use native.Mathlib.Omega.{arith}
-use Rattle.std.proofs.Common.{◌≡◌, ◌++◌, ◌+◌, ◌<◌, ◌/◌, ◌%◌, ◌==◌, ◌||◌, ◌&&◌, not, ℕ, zero, suc, Bool, true, false, List, [], ◌∷◌, length, take, refl, ap, subst, sym, ◌∙◌, append_assoc}
+use Rattle.std.proofs.Common.{◌≡◌, ◌++◌, ◌/◌, ◌%◌, ◌==◌, ◌&&◌, not, ℕ, zero, suc, Bool, true, false, List, [], ◌∷◌}
+use Rattle.std.proofs.Common.{refl, ap, ◌∙◌, append_assoc}
 use Rattle.std.specs.Prelude.{if◌then◌else◌, decimal}
 use Rattle.std.specs.Char.{eq_ignore_ascii_case, is_ascii_digit}
 use Rattle.std.specs.Fmt.{digit_glyph, digits, digits_onto}
@@ -14,6 +15,14 @@ abbrev pub is_wordy : List ℕ → Bool
 is_wordy [] = false
 is_wordy (byte ∷ bytes) = not (list_any is_ascii_digit (byte ∷ bytes))
 
+has_no_digit : (byte : ℕ) (bytes : List ℕ) → is_wordy (byte ∷ bytes) ≡ true
+    → list_any is_ascii_digit (byte ∷ bytes) ≡ false
+has_no_digit byte bytes wordy = go (list_any is_ascii_digit (byte ∷ bytes)) wordy
+  where
+    go : (b : Bool) → not b ≡ true → b ≡ false
+    go true e = absurd cc
+    go false e = refl
+
 differs : (byte digit : ℕ) → is_ascii_digit byte ≡ false → is_ascii_digit digit ≡ true
     → eq_ignore_ascii_case byte digit ≡ false
 differs byte digit other is = grind arith
@@ -21,47 +30,42 @@ differs byte digit other is = grind arith
 glyph_is_digit : (n : ℕ) → is_ascii_digit (digit_glyph false (n % 10)) ≡ true
 glyph_is_digit n = grind arith
 
--- whether a text begins with another is told before the first digit
-begins : (text front back : List ℕ) (digit : ℕ) → list_any is_ascii_digit text ≡ false → is_ascii_digit digit ≡ true
+-- whether such a text begins another is told before the first digit
+begins : (text front back : List ℕ) (digit : ℕ) → list_any is_ascii_digit text ≡ false
+    → is_ascii_digit digit ≡ true
     → starts_with eq_ignore_ascii_case (front ++ digit ∷ back) text ≡ starts_with eq_ignore_ascii_case front text
 begins [] front back digit plain is = refl
-begins (byte ∷ bytes) [] back digit plain is =
-    and_left _ _ (differs byte digit (or_parts _ _ plain).0 is)
+begins (byte ∷ bytes) [] back digit plain is = and_left _ _ (differs byte digit (or_parts _ _ plain).0 is)
 begins (byte ∷ bytes) (first ∷ front) back digit plain is =
     ap (λ rest. eq_ignore_ascii_case byte first && rest) (begins bytes front back digit (or_parts _ _ plain).1 is)
-
-plain_from : (byte : ℕ) (bytes : List ℕ) → is_wordy (byte ∷ bytes) ≡ true → list_any is_ascii_digit (byte ∷ bytes) ≡ false
-plain_from byte bytes wordy = go (list_any is_ascii_digit (byte ∷ bytes)) wordy
-  where
-    go : (b : Bool) → not b ≡ true → b ≡ false
-    go true e = absurd cc
-    go false e = refl
 
 beside_digit : (text front back : List ℕ) (digit : ℕ) → is_wordy text ≡ true → is_ascii_digit digit ≡ true
     → holds text front ≡ false → holds text back ≡ false → holds text (front ++ digit ∷ back) ≡ false
 beside_digit [] front back digit wordy is before behind = absurd cc
 beside_digit (byte ∷ bytes) [] back digit wordy is before behind =
-    or_from _ _ (begins (byte ∷ bytes) [] back digit (plain_from byte bytes wordy) is) behind
+    or_from _ _ (begins (byte ∷ bytes) [] back digit (has_no_digit byte bytes wordy) is) behind
 beside_digit (byte ∷ bytes) (first ∷ front) back digit wordy is before behind =
     or_from _ _
-    (begins (byte ∷ bytes) (first ∷ front) back digit (plain_from byte bytes wordy) is ∙ (or_parts _ _ before).0)
+    (begins (byte ∷ bytes) (first ∷ front) back digit (has_no_digit byte bytes wordy) is ∙ (or_parts _ _ before).0)
     (beside_digit (byte ∷ bytes) front back digit wordy is (or_parts _ _ before).1 behind)
 
 module _ (text front back : List ℕ) (wordy : is_wordy text ≡ true) (before : holds text front ≡ false) where
-  last_or_more : (last : Bool) (n : ℕ) (others more : List ℕ) → holds text (others ++ back) ≡ false
+  -- beside a digit that is the first of all, or more of which this is known
+  beside_first : (last : Bool) (n : ℕ) (others more : List ℕ) → holds text (others ++ back) ≡ false
       → holds text (front ++ (more ++ back)) ≡ false
       → holds text (front ++ ((if last then digit_glyph false (n % 10) ∷ others else more) ++ back)) ≡ false
-  last_or_more true n others more behind after = beside_digit text front (others ++ back) _ wordy (glyph_is_digit n) before behind
-  last_or_more false n others more behind after = after
+  beside_first true n others more behind known =
+      beside_digit text front (others ++ back) _ wordy (glyph_is_digit n) before behind
+  beside_first false n others more behind known = known
 
   -- beside the digits of a number that stand before others
   beside_digits : (k n : ℕ) (others : List ℕ) → holds text (others ++ back) ≡ false
       → holds text (front ++ (digits_onto (suc k) 10 false n others ++ back)) ≡ false
   beside_digits zero n others behind =
-      last_or_more (n / 10 == 0) n others _ behind
+      beside_first (n / 10 == 0) n others _ behind
       (beside_digit text front (others ++ back) _ wordy (glyph_is_digit n) before behind)
   beside_digits (suc k) n others behind =
-      last_or_more (n / 10 == 0) n others _ behind
+      beside_first (n / 10 == 0) n others _ behind
       (beside_digits k (n / 10) (digit_glyph false (n % 10) ∷ others)
       (beside_digit text [] (others ++ back) _ wordy (glyph_is_digit n) refl behind))
 
@@ -80,9 +84,9 @@ all_beside_number (text ∷ texts) front back n wordy before behind =
     (all_beside_number texts front back n (and_parts _ _ wordy).1 (or_parts _ _ before).1 (or_parts _ _ behind).1)
 
 -- .. and of many numbers
-pub all_between : (texts : List (List ℕ)) (parts : List (List ℕ × ℕ)) (last : List ℕ) → list_all is_wordy texts ≡ true
-    → list_any (λ part. holds_one texts part.0) parts ≡ false → holds_one texts last ≡ false
-    → holds_one texts (between parts last) ≡ false
+pub all_between : (texts : List (List ℕ)) (parts : List (List ℕ × ℕ)) (last : List ℕ)
+    → list_all is_wordy texts ≡ true → list_any (λ part. holds_one texts part.0) parts ≡ false
+    → holds_one texts last ≡ false → holds_one texts (between parts last) ≡ false
 all_between texts [] last wordy before behind = behind
 all_between texts (part ∷ parts) last wordy before behind =
     all_beside_number texts part.0 (between parts last) part.1 wordy (or_parts _ _ before).0

@@ -1,4 +1,4 @@
--- No tag with numbers fetches, whatever they are, nor does a badge.
+-- No tag with numbers fetches, whatever the numbers are, and no badge does.
 use Rattle.std.proofs.Common.{◌≡◌, ℕ, true, false, List, [], ◌∷◌, refl}
 use Rattle.std.specs.Prelude.{codes}
 use Rattle.std.specs.List.{list_any}
@@ -10,11 +10,11 @@ use Rattle.plc_html.specs.declared.tag.Tag.TheVariants.{LinkToLine, LinkToEntry,
 use Rattle.plc_html.specs.declared.tag.Tag.TheVariants.{RowOfEntry, DetailsOfPoint, Svg, Frame, Rule, NameAt, FieldAt}
 use Rattle.plc_html.specs.declared.tag.Tag.TheVariants.{Straight, Around, HeadRight, HeadUp}
 use Rattle.plc_html.specs.Badges.{row_of}
-use Rattle.plc_html.specs.Laws.{holds_one, of_markup, of_tags, unlinked}
+use Rattle.plc_html.specs.Laws.{holds_one, of_frames, of_tags, unlinked}
 use Rattle.plc_html.specs.Tags.{between, tag_parts, tag_text}
 use Rattle.plc_html.proofs.Digits.{all_between}
 
-pub badges_fetch_nothing : (badge : Badge) → holds_one of_markup (row_of badge) ≡ false
+pub badges_fetch_nothing : (badge : Badge) → holds_one of_frames (row_of badge) ≡ false
 badges_fetch_nothing Safe = refl
 badges_fetch_nothing Ended = refl
 badges_fetch_nothing Untyped = refl
@@ -25,7 +25,7 @@ badges_fetch_nothing Forbidden = refl
 badges_fetch_nothing Refused = refl
 badges_fetch_nothing Other = refl
 
--- texts round numbers of which none fetches
+-- texts with numbers between them, of which none fetches
 round : (parts : List (List ℕ × ℕ) × List ℕ) → list_any (λ part. holds_one of_tags part.0) parts.0 ≡ false
     → holds_one of_tags parts.1 ≡ false → holds_one of_tags (between parts.0 parts.1) ≡ false
 round parts before last = all_between of_tags parts.0 parts.1 refl before last
