@@ -1,5 +1,4 @@
--- The tags that stand in the parts of a page beside what the frame writes. None fetches, none is a script, none is a
--- badge, the answer's element or a comment.
+-- The tags that stand in the parts of a page beside what the frame writes. What none of them holds stands in `Laws`.
 use Rattle.std.specs.Prelude.{ℕ, Bool, if◌then◌else◌, List, [], ◌∷◌, ◌++◌, codes, decimal}
 use Rattle.plc_html.specs.declared.tag.Tag.{Tag}
 use Rattle.plc_html.specs.declared.tag.Tag.TheVariants.{LinkToLine, LinkToEntry, LinkToPoint, RowOfLine, RowOfLineHere}
@@ -54,25 +53,31 @@ tag_parts (RowOfLine number) = ((codes "<tr id=\"L", number) ∷ [], codes "\">"
 tag_parts (RowOfLineHere number) = ((codes "<tr class=\"here\" id=\"L", number) ∷ [], codes "\">")
 tag_parts (RowOfEntry number) = ((codes "<tr id=\"S", number) ∷ [], codes "\">")
 tag_parts (DetailsOfPoint number) = ((codes "<details id=\"p", number) ∷ [], codes "\">")
-tag_parts (Svg width height) =
-    ((codes "<svg class=\"picture\" fill=\"currentColor\" width=\"", width)
-    ∷ (codes "\" height=\"", height) ∷ (codes "\" viewBox=\"0 0 ", width) ∷ (codes " ", height) ∷ [], codes "\">")
-tag_parts (Frame at width height) =
-    ((codes "<rect class=\"box\" x=\"", at.across) ∷ (codes "\" y=\"", at.down)
-    ∷ (codes "\" width=\"", width) ∷ (codes "\" height=\"", height) ∷ [],
-    codes "\" fill=\"none\" stroke=\"currentColor\"/>")
-tag_parts (Rule at right) =
-    ((codes "<path class=\"box\" d=\"M", at.across) ∷ (codes " ", at.down) ∷ (codes "H", right) ∷ [],
-    codes "\" fill=\"none\" stroke=\"currentColor\"/>")
+tag_parts (Svg width height) = (
+  (codes "<svg class=\"picture\" fill=\"currentColor\" width=\"", width)
+      ∷ (codes "\" height=\"", height) ∷ (codes "\" viewBox=\"0 0 ", width) ∷ (codes " ", height) ∷ [],
+  codes "\">",
+)
+tag_parts (Frame at width height) = (
+  (codes "<rect class=\"box\" x=\"", at.across) ∷ (codes "\" y=\"", at.down)
+      ∷ (codes "\" width=\"", width) ∷ (codes "\" height=\"", height) ∷ [],
+  codes "\" fill=\"none\" stroke=\"currentColor\"/>",
+)
+tag_parts (Rule at right) = (
+  (codes "<path class=\"box\" d=\"M", at.across) ∷ (codes " ", at.down) ∷ (codes "H", right) ∷ [],
+  codes "\" fill=\"none\" stroke=\"currentColor\"/>",
+)
 tag_parts (NameAt at changed) =
     ((name_text changed, at.across) ∷ (codes "\" y=\"", at.down) ∷ [], codes "\">")
 tag_parts (FieldAt at changed) =
     ((field_text changed, at.across) ∷ (codes "\" y=\"", at.down) ∷ [], codes "\">")
 tag_parts (Straight at right changed) =
     ((arrow_text changed, at.across) ∷ (codes " ", at.down) ∷ (codes "H", right) ∷ [], codes "\"/>")
-tag_parts (Around by changed) =
-    ((arrow_text changed, by.from.across) ∷ (codes " ", by.from.down) ∷ (codes "H", by.right) ∷ (codes "V", by.lane)
-    ∷ (codes "H", by.to.across) ∷ (codes "V", by.to.down) ∷ [], codes "\"/>")
+tag_parts (Around by changed) = (
+  (arrow_text changed, by.from.across) ∷ (codes " ", by.from.down) ∷ (codes "H", by.right) ∷ (codes "V", by.lane)
+      ∷ (codes "H", by.to.across) ∷ (codes "V", by.to.down) ∷ [],
+  codes "\"/>",
+)
 tag_parts (HeadRight at changed) =
     ((head_text changed, at.across) ∷ (codes " ", at.down) ∷ [], codes "l-8 -4v8z\"/>")
 tag_parts (HeadUp at changed) =
