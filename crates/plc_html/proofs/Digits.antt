@@ -11,13 +11,13 @@ use Rattle.plc_html.specs.Laws.{holds, holds_one}
 use Rattle.plc_html.specs.Tags.{between}
 
 -- a text that has a byte, and no digit
-abbrev pub is_wordy : List ℕ → Bool
-is_wordy [] = false
-is_wordy (byte ∷ bytes) = not (list_any is_ascii_digit (byte ∷ bytes))
+abbrev pub is_digit_free : List ℕ → Bool
+is_digit_free [] = false
+is_digit_free (byte ∷ bytes) = not (list_any is_ascii_digit (byte ∷ bytes))
 
-has_no_digit : (byte : ℕ) (bytes : List ℕ) → is_wordy (byte ∷ bytes) ≡ true
+has_no_digit : (byte : ℕ) (bytes : List ℕ) → is_digit_free (byte ∷ bytes) ≡ true
     → list_any is_ascii_digit (byte ∷ bytes) ≡ false
-has_no_digit byte bytes wordy = go (list_any is_ascii_digit (byte ∷ bytes)) wordy
+has_no_digit byte bytes free = go (list_any is_ascii_digit (byte ∷ bytes)) free
   where
     go : (b : Bool) → not b ≡ true → b ≡ false
     go true e = absurd cc
@@ -39,23 +39,23 @@ begins (byte ∷ bytes) [] back digit plain is = and_left _ _ (differs byte digi
 begins (byte ∷ bytes) (first ∷ front) back digit plain is =
     ap (λ rest. eq_ignore_ascii_case byte first && rest) (begins bytes front back digit (or_parts _ _ plain).1 is)
 
-beside_digit : (text front back : List ℕ) (digit : ℕ) → is_wordy text ≡ true → is_ascii_digit digit ≡ true
+beside_digit : (text front back : List ℕ) (digit : ℕ) → is_digit_free text ≡ true → is_ascii_digit digit ≡ true
     → holds text front ≡ false → holds text back ≡ false → holds text (front ++ digit ∷ back) ≡ false
-beside_digit [] front back digit wordy is before behind = absurd cc
-beside_digit (byte ∷ bytes) [] back digit wordy is before behind =
-    or_from _ _ (begins (byte ∷ bytes) [] back digit (has_no_digit byte bytes wordy) is) behind
-beside_digit (byte ∷ bytes) (first ∷ front) back digit wordy is before behind =
+beside_digit [] front back digit free is before behind = absurd cc
+beside_digit (byte ∷ bytes) [] back digit free is before behind =
+    or_from _ _ (begins (byte ∷ bytes) [] back digit (has_no_digit byte bytes free) is) behind
+beside_digit (byte ∷ bytes) (first ∷ front) back digit free is before behind =
     or_from _ _
-    (begins (byte ∷ bytes) (first ∷ front) back digit (has_no_digit byte bytes wordy) is ∙ (or_parts _ _ before).0)
-    (beside_digit (byte ∷ bytes) front back digit wordy is (or_parts _ _ before).1 behind)
+    (begins (byte ∷ bytes) (first ∷ front) back digit (has_no_digit byte bytes free) is ∙ (or_parts _ _ before).0)
+    (beside_digit (byte ∷ bytes) front back digit free is (or_parts _ _ before).1 behind)
 
-module _ (text front back : List ℕ) (wordy : is_wordy text ≡ true) (before : holds text front ≡ false) where
+module _ (text front back : List ℕ) (free : is_digit_free text ≡ true) (before : holds text front ≡ false) where
   -- beside a digit that is the first of all, or more of which this is known
   beside_first : (last : Bool) (n : ℕ) (others more : List ℕ) → holds text (others ++ back) ≡ false
       → holds text (front ++ (more ++ back)) ≡ false
       → holds text (front ++ ((if last then digit_glyph false (n % 10) ∷ others else more) ++ back)) ≡ false
   beside_first true n others more behind known =
-      beside_digit text front (others ++ back) _ wordy (glyph_is_digit n) before behind
+      beside_digit text front (others ++ back) _ free (glyph_is_digit n) before behind
   beside_first false n others more behind known = known
 
   -- beside the digits of a number that stand before others
@@ -63,31 +63,31 @@ module _ (text front back : List ℕ) (wordy : is_wordy text ≡ true) (before :
       → holds text (front ++ (digits_onto (suc k) 10 false n others ++ back)) ≡ false
   beside_digits zero n others behind =
       beside_first (n / 10 == 0) n others _ behind
-      (beside_digit text front (others ++ back) _ wordy (glyph_is_digit n) before behind)
+      (beside_digit text front (others ++ back) _ free (glyph_is_digit n) before behind)
   beside_digits (suc k) n others behind =
       beside_first (n / 10 == 0) n others _ behind
       (beside_digits k (n / 10) (digit_glyph false (n % 10) ∷ others)
-      (beside_digit text [] (others ++ back) _ wordy (glyph_is_digit n) refl behind))
+      (beside_digit text [] (others ++ back) _ free (glyph_is_digit n) refl behind))
 
   beside_number : (n : ℕ) → holds text back ≡ false → holds text (front ++ decimal n ++ back) ≡ false
   unfolding digits
   beside_number n behind = rw (append_assoc front (decimal n) back) (beside_digits 63 n [] behind)
 
 -- the same of many texts
-all_beside_number : (texts : List (List ℕ)) (front back : List ℕ) (n : ℕ) → list_all is_wordy texts ≡ true
+all_beside_number : (texts : List (List ℕ)) (front back : List ℕ) (n : ℕ) → list_all is_digit_free texts ≡ true
     → holds_one texts front ≡ false → holds_one texts back ≡ false
     → holds_one texts (front ++ decimal n ++ back) ≡ false
-all_beside_number [] front back n wordy before behind = refl
-all_beside_number (text ∷ texts) front back n wordy before behind =
+all_beside_number [] front back n free before behind = refl
+all_beside_number (text ∷ texts) front back n free before behind =
     or_from _ _
-    (beside_number text front back (and_parts _ _ wordy).0 (or_parts _ _ before).0 n (or_parts _ _ behind).0)
-    (all_beside_number texts front back n (and_parts _ _ wordy).1 (or_parts _ _ before).1 (or_parts _ _ behind).1)
+    (beside_number text front back (and_parts _ _ free).0 (or_parts _ _ before).0 n (or_parts _ _ behind).0)
+    (all_beside_number texts front back n (and_parts _ _ free).1 (or_parts _ _ before).1 (or_parts _ _ behind).1)
 
 -- .. and of many numbers
 pub all_between : (texts : List (List ℕ)) (parts : List (List ℕ × ℕ)) (last : List ℕ)
-    → list_all is_wordy texts ≡ true → list_any (λ part. holds_one texts part.0) parts ≡ false
+    → list_all is_digit_free texts ≡ true → list_any (λ part. holds_one texts part.0) parts ≡ false
     → holds_one texts last ≡ false → holds_one texts (between parts last) ≡ false
-all_between texts [] last wordy before behind = behind
-all_between texts (part ∷ parts) last wordy before behind =
-    all_beside_number texts part.0 (between parts last) part.1 wordy (or_parts _ _ before).0
-    (all_between texts parts last wordy (or_parts _ _ before).1 behind)
+all_between texts [] last free before behind = behind
+all_between texts (part ∷ parts) last free before behind =
+    all_beside_number texts part.0 (between parts last) part.1 free (or_parts _ _ before).0
+    (all_between texts parts last free (or_parts _ _ before).1 behind)
