@@ -1,5 +1,4 @@
--- The tags that stand in the parts of a page beside what the frame writes. None fetches, none is a script, none is a
--- badge, the answer's element or a comment.
+-- The tags that stand in the parts of a page beside what the frame writes. What none of them holds stands in `Laws`.
 use Rattle.std.specs.Prelude.{ℕ, Bool, if◌then◌else◌, List, [], ◌∷◌, ◌++◌, codes, decimal}
 use Rattle.plc_html.specs.declared.tag.Tag.{Tag}
 use Rattle.plc_html.specs.declared.tag.Tag.TheVariants.{LinkToLine, LinkToEntry, LinkToPoint, RowOfLine, RowOfLineHere}
@@ -45,41 +44,45 @@ abbrev pub head_text : Bool → List ℕ
 head_text changed =
     if changed then codes "<path class=\"arrowhead changed\" d=\"M" else codes "<path class=\"arrowhead\" d=\"M"
 
--- those with numbers
+-- those with numbers: texts, each with a number behind it, and the last text
+abbrev pub tag_parts : Tag → List (List ℕ × ℕ) × List ℕ
+tag_parts (LinkToLine number) = ((codes "<a href=\"#L", number) ∷ [], codes "\">")
+tag_parts (LinkToEntry number) = ((codes "<a href=\"#S", number) ∷ [], codes "\">")
+tag_parts (LinkToPoint number) = ((codes "<a href=\"#p", number) ∷ [], codes "\">")
+tag_parts (RowOfLine number) = ((codes "<tr id=\"L", number) ∷ [], codes "\">")
+tag_parts (RowOfLineHere number) = ((codes "<tr class=\"here\" id=\"L", number) ∷ [], codes "\">")
+tag_parts (RowOfEntry number) = ((codes "<tr id=\"S", number) ∷ [], codes "\">")
+tag_parts (DetailsOfPoint number) = ((codes "<details id=\"p", number) ∷ [], codes "\">")
+tag_parts (Svg width height) = (
+  (codes "<svg class=\"picture\" fill=\"currentColor\" width=\"", width)
+      ∷ (codes "\" height=\"", height) ∷ (codes "\" viewBox=\"0 0 ", width) ∷ (codes " ", height) ∷ [],
+  codes "\">",
+)
+tag_parts (Frame at width height) = (
+  (codes "<rect class=\"box\" x=\"", at.across) ∷ (codes "\" y=\"", at.down)
+      ∷ (codes "\" width=\"", width) ∷ (codes "\" height=\"", height) ∷ [],
+  codes "\" fill=\"none\" stroke=\"currentColor\"/>",
+)
+tag_parts (Rule at right) = (
+  (codes "<path class=\"box\" d=\"M", at.across) ∷ (codes " ", at.down) ∷ (codes "H", right) ∷ [],
+  codes "\" fill=\"none\" stroke=\"currentColor\"/>",
+)
+tag_parts (NameAt at changed) =
+    ((name_text changed, at.across) ∷ (codes "\" y=\"", at.down) ∷ [], codes "\">")
+tag_parts (FieldAt at changed) =
+    ((field_text changed, at.across) ∷ (codes "\" y=\"", at.down) ∷ [], codes "\">")
+tag_parts (Straight at right changed) =
+    ((arrow_text changed, at.across) ∷ (codes " ", at.down) ∷ (codes "H", right) ∷ [], codes "\"/>")
+tag_parts (Around by changed) = (
+  (arrow_text changed, by.from.across) ∷ (codes " ", by.from.down) ∷ (codes "H", by.right) ∷ (codes "V", by.lane)
+      ∷ (codes "H", by.to.across) ∷ (codes "V", by.to.down) ∷ [],
+  codes "\"/>",
+)
+tag_parts (HeadRight at changed) =
+    ((head_text changed, at.across) ∷ (codes " ", at.down) ∷ [], codes "l-8 -4v8z\"/>")
+tag_parts (HeadUp at changed) =
+    ((head_text changed, at.across) ∷ (codes " ", at.down) ∷ [], codes "l-4 8h8z\"/>")
+
+-- the text of such a tag
 abbrev pub tag_text : Tag → List ℕ
-tag_text (LinkToLine number) = between ((codes "<a href=\"#L", number) ∷ []) (codes "\">")
-tag_text (LinkToEntry number) = between ((codes "<a href=\"#S", number) ∷ []) (codes "\">")
-tag_text (LinkToPoint number) = between ((codes "<a href=\"#p", number) ∷ []) (codes "\">")
-tag_text (RowOfLine number) = between ((codes "<tr id=\"L", number) ∷ []) (codes "\">")
-tag_text (RowOfLineHere number) = between ((codes "<tr class=\"here\" id=\"L", number) ∷ []) (codes "\">")
-tag_text (RowOfEntry number) = between ((codes "<tr id=\"S", number) ∷ []) (codes "\">")
-tag_text (DetailsOfPoint number) = between ((codes "<details id=\"p", number) ∷ []) (codes "\">")
-tag_text (Svg width height) =
-    between
-    ((codes "<svg class=\"picture\" fill=\"currentColor\" width=\"", width)
-    ∷ (codes "\" height=\"", height) ∷ (codes "\" viewBox=\"0 0 ", width) ∷ (codes " ", height) ∷ [])
-    (codes "\">")
-tag_text (Frame at width height) =
-    between
-    ((codes "<rect class=\"box\" x=\"", at.across) ∷ (codes "\" y=\"", at.down)
-    ∷ (codes "\" width=\"", width) ∷ (codes "\" height=\"", height) ∷ [])
-    (codes "\" fill=\"none\" stroke=\"currentColor\"/>")
-tag_text (Rule at right) =
-    between
-    ((codes "<path class=\"box\" d=\"M", at.across) ∷ (codes " ", at.down) ∷ (codes "H", right) ∷ [])
-    (codes "\" fill=\"none\" stroke=\"currentColor\"/>")
-tag_text (NameAt at changed) =
-    between ((name_text changed, at.across) ∷ (codes "\" y=\"", at.down) ∷ []) (codes "\">")
-tag_text (FieldAt at changed) =
-    between ((field_text changed, at.across) ∷ (codes "\" y=\"", at.down) ∷ []) (codes "\">")
-tag_text (Straight at right changed) =
-    between ((arrow_text changed, at.across) ∷ (codes " ", at.down) ∷ (codes "H", right) ∷ []) (codes "\"/>")
-tag_text (Around by changed) =
-    between
-    ((arrow_text changed, by.from.across) ∷ (codes " ", by.from.down) ∷ (codes "H", by.right) ∷ (codes "V", by.lane)
-    ∷ (codes "H", by.to.across) ∷ (codes "V", by.to.down) ∷ [])
-    (codes "\"/>")
-tag_text (HeadRight at changed) =
-    between ((head_text changed, at.across) ∷ (codes " ", at.down) ∷ []) (codes "l-8 -4v8z\"/>")
-tag_text (HeadUp at changed) =
-    between ((head_text changed, at.across) ∷ (codes " ", at.down) ∷ []) (codes "l-4 8h8z\"/>")
+tag_text tag = between (tag_parts tag).0 (tag_parts tag).1

@@ -141,8 +141,9 @@ pub fn whole_page(
     Ok(page)
 }
 
-/// The law that nothing in the style fetches or ends it, and that no tag of a part fetches, runs, or is a badge, the
-/// answer's element or a comment.
+/// The law that neither the frame, nor a badge, the style or a tag of a part, whatever its numbers are, holds one of
+/// the listed texts by which a page would fetch, run or lead elsewhere. Nor is there a comment, nor does the style end
+/// before its tag does, nor has a tag of a part a style, nor is it a badge or the answer's element.
 pub fn pages_fetch_nothing()
     ensures { NothingFetches }
 {}

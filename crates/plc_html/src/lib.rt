@@ -1,7 +1,7 @@
 //! The frame of a page, and its parts, which grow piece by piece, on lists of bytes alone. A part is a list of listed
 //! tags and of text in which no byte is markup, whatever a caller passes: that is the invariant of `Html`. So no byte
-//! of a file that is shown can begin or end a tag, no page fetches or runs anything, and what stands on a page beside
-//! its parts, the badge above all, is what `whole_page` says.
+//! of a file that is shown can begin or end a tag, and what stands on a page beside its parts, the badge above all, is
+//! what `whole_page` says. Of all these texts none is one by which a page would fetch or run (`pages_fetch_nothing`).
 #![tactic(auto)]
 
 mod badges;
