@@ -1,5 +1,5 @@
 -- What a reader sees at the front of tokens.
-use Rattle.std.specs.Prelude.{◌≡◌, ℕ, ◌+◌, List, [], ◌∷◌}
+use Rattle.std.specs.Prelude.{ℕ, ◌+◌, List, [], ◌∷◌}
 use Rattle.plc_lex.specs.declared.token.TokenKind.{TokenKind}
 use Rattle.plc_lex.specs.declared.token.TokenKind.TheVariants.{Word, Name, Number, Symbol}
 use Rattle.plc_syntax.specs.declared.front.Front.{Front}
@@ -8,8 +8,8 @@ use Rattle.plc_syntax.specs.declared.front.Front.TheVariants as fronts
 -- the tokens, of those after the first
 abbrev pub front_then : Front → List TokenKind → List TokenKind
 front_then (fronts.Word w) ts = Word w ∷ ts
-front_then (fronts.Name n) ts = Name n.value.now ∷ ts
-front_then (fronts.Number n) ts = Number n.value ∷ ts
+front_then (fronts.Name n) ts = Name n.now ∷ ts
+front_then (fronts.Number n) ts = Number n ∷ ts
 front_then (fronts.Symbol s) ts = Symbol s ∷ ts
 front_then fronts.End ts = []
 
@@ -20,11 +20,3 @@ front_end (fronts.Name n) at = at + 1
 front_end (fronts.Number n) at = at + 1
 front_end (fronts.Symbol s) at = at + 1
 front_end fronts.End at = at
-
--- a name or a number stands at a place
-abbrev pub IsThere : Front → ℕ → Type 0
-IsThere (fronts.Name n) at = n.at ≡ at
-IsThere (fronts.Number n) at = n.at ≡ at
-IsThere (fronts.Word w) at = Unit {0}
-IsThere (fronts.Symbol s) at = Unit {0}
-IsThere fronts.End at = Unit {0}

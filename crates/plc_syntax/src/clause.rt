@@ -21,11 +21,11 @@ fn term_at<'a>(rest: Rest<'a>) -> Read<'a, Term<'a>>
 {
     match at_front(rest) {
         (Front::Word(Keyword::Null), after) => Ok((Term::Null(rest.at), after)),
-        (Front::Number(n), after) => Ok((Term::Number(n), after)),
+        (Front::Number(value), after) => Ok((Term::Number(Placed { at: rest.at, value }), after)),
         (Front::Word(Keyword::Me), after) => Ok((Term::Me(rest.at), after)),
         (Front::Word(Keyword::None), after) => Ok((Term::None(rest.at), after)),
-        (Front::Name(name), after) =>
-            form!(Term::Place(place); place = place_of_name_at(name, after)),
+        (Front::Name(value), after) =>
+            form!(Term::Place(place); place = place_of_name_at(Placed { at: rest.at, value }, after)),
         _ => Err(syntax_fault(rest)),
     }
 }

@@ -42,7 +42,7 @@ pub fn test_at<'a>(rest: Rest<'a>) -> Read<'a, Test<'a>>
     ensures { Gives test_tree result (test_of rest.entry.at (kinds rest.entry.tokens.now)) }
 {
     match at_front(rest) {
-        (Front::Name(name), after) => compared_at(name, after),
+        (Front::Name(value), after) => compared_at(Placed { at: rest.at, value }, after),
         (Front::Word(Keyword::Marked), after) => form!(Test::Marked(name); name = name_at(after)),
         (Front::Word(Keyword::Unmarked), after) =>
             form!(Test::Unmarked(name); name = name_at(after)),
@@ -55,7 +55,7 @@ fn name_or_null_at<'a>(rest: Rest<'a>) -> Read<'a, Option<Name<'a>>>
     ensures { Gives name_or_none result (name_or_null_of rest.entry.at (kinds rest.entry.tokens.now)) }
 {
     match at_front(rest) {
-        (Front::Name(name), after) => Ok((Some(name), after)),
+        (Front::Name(value), after) => Ok((Some(Placed { at: rest.at, value }), after)),
         (Front::Word(Keyword::Null), after) => Ok((None, after)),
         _ => Err(syntax_fault(rest)),
     }
@@ -102,7 +102,7 @@ pub fn condition_at<'a>(rest: Rest<'a>) -> Read<'a, Condition<'a>>
 {
     match at_front(rest) {
         (Front::Word(Keyword::Cas), after) => cas_condition_at(after),
-        (Front::Name(name), after) => named_condition_at(name, after),
+        (Front::Name(value), after) => named_condition_at(Placed { at: rest.at, value }, after),
         _ => form!(Condition::Test(test); test = test_at(rest)),
     }
 }

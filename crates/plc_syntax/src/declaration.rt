@@ -7,7 +7,7 @@ ghost use Rattle.plc_syntax.specs.Forms.{field_of, shared_of, function_of, hazar
 ghost use Rattle.plc_syntax.specs.Forms.{scheme_of, watch_of, set_field_of, set_of_name, initial_of};
 ghost use Rattle.plc_syntax.specs.Answers.{Gives};
 
-use crate::form::{Declaration, Function, Initial, Name, Set, Shared, Watch};
+use crate::form::{Declaration, Function, Initial, Name, Placed, Set, Shared, Watch};
 use crate::front::{
     Front, Read, at_front, name_and_at, symbol_at, syntax_fault, word_at, word_if_at,
 };
@@ -122,8 +122,8 @@ pub fn initial_at<'a>(rest: Rest<'a>) -> Read<'a, Initial<'a>>
     ensures { Gives initial_tree result (initial_of rest.entry.at (kinds rest.entry.tokens.now)) }
 {
     match at_front(rest) {
-        (Front::Name(name), after) =>
-            form!(Initial::Set(set); set = set_of_name_at(name, after), Semicolon),
+        (Front::Name(value), after) =>
+            form!(Initial::Set(set); set = set_of_name_at(Placed { at: rest.at, value }, after), Semicolon),
         (Front::Word(Keyword::Ghost), after) =>
             form!(Initial::Ghost(set); set = ghost_set_at(after), Semicolon),
         _ => Err(syntax_fault(rest)),

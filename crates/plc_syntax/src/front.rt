@@ -4,7 +4,7 @@
 ghost use Rattle.std.specs.Prelude.{◌≡◌, ◌+◌, ◌∷◌, [], MatchOption, IfSome};
 ghost use Rattle.plc_syntax.specs.Syntax.{kinds};
 ghost use Rattle.plc_syntax.specs.Views.{name_tree, number_tree};
-ghost use Rattle.plc_syntax.specs.Fronts.{front_then, front_end, IsThere};
+ghost use Rattle.plc_syntax.specs.Fronts.{front_then, front_end};
 ghost use Rattle.plc_syntax.specs.Forms.{word_of, word_if_of, symbol_of, name_of, name_and, number_of, comma_name_of};
 ghost use Rattle.plc_syntax.specs.Answers.{Gives, Passes};
 
@@ -78,8 +78,8 @@ pub fn first<'a>(rest: Rest<'a>) -> Option<(&'a TokenKind, Rest<'a>)>
 #[derive(Clone, Copy)]
 pub enum Front<'a> {
     Word(Keyword),
-    Name(Name<'a>),
-    Number(Placed<u32>),
+    Name(&'a [u8]),
+    Number(u32),
     Symbol(Symbol),
     /// No token.
     End,
@@ -90,19 +90,11 @@ pub enum Front<'a> {
 pub fn at_front<'a>(rest: Rest<'a>) -> (Front<'a>, Rest<'a>)
     ensures read { kinds rest.entry.tokens.now ≡ front_then result.0 (kinds result.1.tokens.now) }
     ensures at { result.1.at ≡ front_end result.0 rest.entry.at }
-    ensures place { IsThere result.0 rest.entry.at }
 {
-    let at = rest.at;
     match first(rest) {
         Some((TokenKind::Word(word), after)) => (Front::Word(*word), after),
-        Some((TokenKind::Name(name), after)) => {
-            let value = name.as_slice();
-            (Front::Name(Placed { at, value }), after)
-        }
-        Some((TokenKind::Number(number), after)) => (
-            Front::Number(Placed { at, value: *number }),
-            after,
-        ),
+        Some((TokenKind::Name(name), after)) => (Front::Name(name.as_slice()), after),
+        Some((TokenKind::Number(number), after)) => (Front::Number(*number), after),
         Some((TokenKind::Symbol(symbol), after)) => (Front::Symbol(*symbol), after),
         None => (Front::End, rest),
     }
@@ -143,7 +135,7 @@ pub fn name_at<'a>(rest: Rest<'a>) -> Read<'a, Name<'a>>
     ensures { Gives name_tree result (name_of rest.entry.at (kinds rest.entry.tokens.now)) }
 {
     match at_front(rest) {
-        (Front::Name(name), after) => Ok((name, after)),
+        (Front::Name(value), after) => Ok((Placed { at: rest.at, value }, after)),
         _ => Err(syntax_fault(rest)),
     }
 }
@@ -174,7 +166,7 @@ pub fn number_at<'a>(rest: Rest<'a>) -> Read<'a, Placed<u32>>
     ensures { Gives number_tree result (number_of rest.entry.at (kinds rest.entry.tokens.now)) }
 {
     match at_front(rest) {
-        (Front::Number(number), after) => Ok((number, after)),
+        (Front::Number(value), after) => Ok((Placed { at: rest.at, value }, after)),
         _ => Err(syntax_fault(rest)),
     }
 }

@@ -10,7 +10,7 @@ ghost use Rattle.plc_syntax.specs.Answers.{Gives};
 
 use crate::condition::test_at;
 use crate::form::{
-    Argument, Atom, GhostSet, GhostValue, Name, Place, Primitive, Refresh, Set, Value,
+    Argument, Atom, GhostSet, GhostValue, Name, Place, Placed, Primitive, Refresh, Set, Value,
 };
 use crate::front::{Front, Read, at_front, name_and_at, name_at, syntax_fault};
 use crate::rest::Rest;
@@ -46,13 +46,13 @@ pub fn value_at<'a>(rest: Rest<'a>) -> Read<'a, Value<'a>>
     match at_front(rest) {
         (Front::Word(Keyword::Null), after) => Ok((Value::Null(rest.at), after)),
         (Front::Word(Keyword::New), after) => Ok((Value::New(rest.at), after)),
-        (Front::Number(n), after) => Ok((Value::Number(n), after)),
+        (Front::Number(value), after) => Ok((Value::Number(Placed { at: rest.at, value }), after)),
         (Front::Word(Keyword::Mark), after) =>
             form!(Value::Mark(rest.at, name); name = name_at(after)),
         (Front::Word(Keyword::Unmark), after) =>
             form!(Value::Unmark(rest.at, name); name = name_at(after)),
-        (Front::Name(name), after) =>
-            form!(Value::Place(place); place = place_of_name_at(name, after)),
+        (Front::Name(value), after) =>
+            form!(Value::Place(place); place = place_of_name_at(Placed { at: rest.at, value }, after)),
         _ => Err(syntax_fault(rest)),
     }
 }
@@ -63,8 +63,8 @@ pub fn atom_at<'a>(rest: Rest<'a>) -> Read<'a, Atom<'a>>
 {
     match at_front(rest) {
         (Front::Word(Keyword::Null), after) => Ok((Atom::Null(rest.at), after)),
-        (Front::Number(n), after) => Ok((Atom::Number(n), after)),
-        (Front::Name(name), after) => Ok((Atom::Name(name), after)),
+        (Front::Number(value), after) => Ok((Atom::Number(Placed { at: rest.at, value }), after)),
+        (Front::Name(value), after) => Ok((Atom::Name(Placed { at: rest.at, value }), after)),
         _ => Err(syntax_fault(rest)),
     }
 }
@@ -74,7 +74,7 @@ fn ghost_value_at<'a>(rest: Rest<'a>) -> Read<'a, GhostValue<'a>>
     ensures { Gives ghost_value_tree result (ghost_value_of rest.entry.at (kinds rest.entry.tokens.now)) }
 {
     match at_front(rest) {
-        (Front::Name(name), after) => Ok((GhostValue::Name(name), after)),
+        (Front::Name(value), after) => Ok((GhostValue::Name(Placed { at: rest.at, value }), after)),
         (Front::Word(Keyword::Me), after) => Ok((GhostValue::Me(rest.at), after)),
         (Front::Word(Keyword::None), after) => Ok((GhostValue::None(rest.at), after)),
         _ => Err(syntax_fault(rest)),
@@ -129,7 +129,7 @@ fn primitive_at<'a>(rest: Rest<'a>) -> Read<'a, Primitive<'a>>
     ensures { Gives primitive_tree result (primitive_of rest.entry.at (kinds rest.entry.tokens.now)) }
 {
     match at_front(rest) {
-        (Front::Name(name), after) => named_tail_at(name, after),
+        (Front::Name(value), after) => named_tail_at(Placed { at: rest.at, value }, after),
         (Front::Word(Keyword::Ghost), after) =>
             form!(Primitive::Ghost(set); set = ghost_set_at(after)),
         (Front::Word(Keyword::Active), after) =>
@@ -154,7 +154,7 @@ pub fn argument_at<'a>(rest: Rest<'a>) -> Read<'a, Argument<'a>>
 {
     match at_front(rest) {
         (Front::Word(Keyword::Null), after) => Ok((Argument::Null, after)),
-        (Front::Name(name), after) => Ok((Argument::Name(name), after)),
+        (Front::Name(value), after) => Ok((Argument::Name(Placed { at: rest.at, value }), after)),
         (Front::Word(Keyword::Active), after) =>
             form!(Argument::Active(name); name = name_at(after)),
         _ => Ok((Argument::None, rest)),

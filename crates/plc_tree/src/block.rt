@@ -163,7 +163,7 @@ fn statement_at<'a>(alloc: Global, most: usize, rest: Rest<'a>) -> Read<'a, Stmt
         (statement_of (block_of most) (ors_of most) most rest.entry.at (kinds rest.entry.tokens.now)) }
 {
     match at_front(rest) {
-        (Front::Name(name), after) => named_statement_at(name, after),
+        (Front::Name(value), after) => named_statement_at(Placed { at: rest.at, value }, after),
         (Front::Word(Keyword::Atomic), after) => atomic_at(alloc, most, after),
         (Front::Word(Keyword::If), after) => if_at(alloc, most, after),
         (Front::Word(Keyword::Choose), after) => choose_at(alloc, most, after),

@@ -10,7 +10,7 @@ use crate::tree::Block;
 use plc_base::Items;
 use plc_lex::{Keyword, Symbol};
 use plc_syntax::{
-    Declaration, Front, Name, Read, Rest, at_front, form, in_turn, name_and_at, symbol_at,
+    Declaration, Front, Name, Placed, Read, Rest, at_front, form, in_turn, name_and_at, symbol_at,
     syntax_fault,
 };
 use std::alloc::Global;
@@ -42,8 +42,8 @@ fn parameters_at<'a>(alloc: Global, most: usize, rest: Rest<'a>) -> Read<'a, Par
     ensures { Gives parameters_names result (parameters_of most rest.entry.at (kinds rest.entry.tokens.now)) }
 {
     match at_front(rest) {
-        (Front::Name(name), after) => form!(
-            Parameters::Some(name, others);
+        (Front::Name(value), after) => form!(
+            Parameters::Some(Placed { at: rest.at, value }, others);
             others = ended_list_at(alloc, most, after, Symbol::CloseParen)
         ),
         (Front::Symbol(Symbol::CloseParen), after) => Ok((Parameters::None, after)),
