@@ -1,7 +1,8 @@
 -- What is known of a program that is explored, and where a run of it stands.
+use Rattle.std.specs.Prelude.{◌<◌}
 use Rattle.plc_flow.specs.WellFormed.{FlowFits}
 use Rattle.plc_flow.specs.StepsByPoint.{IsIndexOf, first_points}
-use Rattle.plc_run.specs.Position.{Position, IsOfRun}
+use Rattle.plc_run.specs.Position.{Position, IsOfRun, threads_of}
 use Rattle.plc_explore.specs.declared.program.Program.{Program}
 
 -- it may be run: its flow fits
@@ -12,6 +13,7 @@ MayRun program = FlowFits program.flow.now
 abbrev pub IsIndexed : Program → Type 0
 IsIndexed program = MayRun program × IsIndexOf (first_points program.flow.now) program.steps.now
 
--- the configuration is one of a run of the program, which may be run
+-- the configuration is one of a run of the program, which may be run, among one thread or more
 abbrev pub IsRunOf : Program → Position → Type 0
-IsRunOf program config = MayRun program × IsOfRun program.flow.now program.observer.now config
+IsRunOf program config =
+    MayRun program × IsOfRun program.flow.now program.observer.now config × (0 < threads_of config)

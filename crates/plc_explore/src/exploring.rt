@@ -1,5 +1,10 @@
 // Runs are drawn one after the other, until one races or as many moves were made as there may be.
+ghost use Rattle.std.specs.Prelude.{◌≡◌, ◌<◌, [], IfOk, IfSome, IsTrue};
+ghost use Rattle.plc_run.specs.Position.{threads_of};
+ghost use Rattle.plc_explore.specs.Racing.{FindsRaces, IsRacingRun};
+ghost use Rattle.plc_explore.specs.Drawing.{RacesWhereSaid, kept_after};
 ghost use Rattle.plc_explore.specs.Running.{IsIndexed, IsRunOf};
+ghost use Rattle.plc_explore.specs.Walking.{IsWalked};
 
 use crate::frees::Frees;
 use crate::program::Program;
@@ -30,6 +35,9 @@ struct Drawn {
 fn walk(walker: &mut Walker, program: &Program, mut run: Running) -> Result<Option<bool>, NoMemory>
     requires indexed { IsIndexed program.now }
     requires of_run { IsRunOf program.now run.config }
+    requires walked { IsWalked program.now walker.old.moves run.config }
+    ensures { IfOk result (λ races. IfSome races (λ races. IsTrue races
+        → IsRacingRun program.now.flow.now program.now.observer.now (threads_of run.entry.config) walker.new.moves)) }
 {
     let races = walker.walk(program, &mut run);
     drop(run);
@@ -45,10 +53,15 @@ fn begin_and_walk(
     program: &Program,
     frees: &mut Frees,
     walker: &mut Walker,
+    threads: u32,
 ) -> Result<Option<bool>, NoMemory>
-    requires { IsIndexed program.now }
+    requires indexed { IsIndexed program.now }
+    requires some { 0 < threads }
+    requires fresh { walker.old.moves ≡ [] }
+    ensures { IfOk result (λ races. IfSome races (λ races. IsTrue races
+        → IsRacingRun program.now.flow.now program.now.observer.now threads walker.new.moves)) }
 {
-    match Running::begin(alloc, program, frees, walker.threads()) {
+    match Running::begin(alloc, program, frees, threads) {
         Ok(Some(run)) => walk(walker, program, run),
         Ok(None) => Ok(None),
         Err(fault) => Err(fault),
@@ -63,13 +76,16 @@ fn draw(
     random: &mut Random,
 ) -> Result<Option<Drawn>, NoMemory>
     requires { IsIndexed program.now }
+    ensures { IfOk result (λ drawn. IfSome drawn (RacesWhereSaid program.now)) }
 {
     if program.flow.file.ops.is_empty() {
         return Ok(None);
     }
     let mut walker = Walker::new(alloc, random)?;
-    let races = begin_and_walk(alloc, program, frees, &mut walker);
-    let trail = walker.into_trail();
+    let threads = walker.threads();
+    let races = begin_and_walk(alloc, program, frees, &mut walker, threads);
+    let moves = walker.into_moves();
+    let trail = Trail { threads, moves };
     match races {
         Ok(Some(races)) => Ok(Some(Drawn { trail, races })),
         Ok(None) => Ok(None),
@@ -79,7 +95,9 @@ fn draw(
 
 impl Explored {
     /// Counts a run that was drawn, and keeps it if it races.
-    fn add(&mut self, drawn: Drawn) {
+    fn add(&mut self, drawn: Drawn)
+        ensures { self.new.trail ≡ kept_after self.old.trail drawn }
+    {
         self.runs = self.runs.saturating_add(1);
         self.moves = self.moves.saturating_add(drawn.trail.moves.len() as u64);
         if drawn.races {
@@ -97,7 +115,9 @@ fn explore_into(
     random: &mut Random,
     most: u64,
 ) -> Result<(), NoMemory>
-    requires { IsIndexed program.now }
+    requires indexed { IsIndexed program.now }
+    requires found { FindsRaces program.now explored.old.trail }
+    ensures { FindsRaces program.now explored.new.trail }
 {
     for _ in 0..most {
         match draw(alloc, program, frees, random) {
@@ -113,7 +133,8 @@ fn explore_into(
 }
 
 /// Draws runs until one races, or until this many moves were made. Where the program has no run, or no operation, none
-/// is drawn. The one error is that memory runs out.
+/// is drawn. What is found is a run of the definition whose last move is a race; its frees are those that came. The one
+/// error is that memory runs out.
 pub fn explore(
     alloc: Global,
     program: &Program,
@@ -122,6 +143,7 @@ pub fn explore(
     most: u64,
 ) -> Result<Explored, NoMemory>
     requires { IsIndexed program.now }
+    ensures { IfOk result (λ explored. FindsRaces program.now explored.trail) }
 {
     let mut explored = Explored {
         trail: None,

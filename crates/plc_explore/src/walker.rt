@@ -1,8 +1,12 @@
 // A run that is drawn: threads move in an order that changes (order.rt), each by a move that is drawn among those that
 // it has, and after each move what may be freed is freed. The run ends at the first race, where no thread can move, or
 // where it grows too long.
-ghost use Rattle.std.specs.Prelude.{◌<◌};
+ghost use Rattle.std.specs.Prelude.{◌≡◌, ◌⊎◌, ◌<◌, ◌++◌, ◌∷◌, [], IfOk, IsTrue, OnOk};
+ghost use Rattle.plc_moves.specs.declared.words.Move.TheVariants.{Free};
+ghost use Rattle.plc_run.specs.Position.{threads_of};
+ghost use Rattle.plc_explore.specs.declared.walker.Turn.TheVariants.{Passed, Went};
 ghost use Rattle.plc_explore.specs.Running.{IsIndexed, IsRunOf};
+ghost use Rattle.plc_explore.specs.Walking.{IsRaceOf, IsTurned, IsWalked};
 
 use crate::order::Order;
 use crate::outlook::Outlook;
@@ -10,7 +14,6 @@ use crate::plan::Plan;
 use crate::program::Program;
 use crate::random::Random;
 use crate::running::{Running, retired_in};
-use crate::trail::Trail;
 use plc_base::{Items, NoMemory, OpId};
 use plc_flow::{Point, Step};
 use plc_lang::{Prim, Var, assigned, count_parameters, has_new};
@@ -58,7 +61,9 @@ fn is_exit(program: &Program, point: Point) -> bool {
 
 impl<'a> Walker<'a> {
     /// Who draws a run, with what is drawn before its first move.
-    pub fn new(alloc: Global, random: &'a mut Random) -> Result<Walker<'a>, NoMemory> {
+    pub fn new(alloc: Global, random: &'a mut Random) -> Result<Walker<'a>, NoMemory>
+        ensures { IfOk result (λ walker. walker.moves ≡ []) }
+    {
         let plan = Plan::draw(alloc, random)?;
         let order = Order::draw(alloc, random, plan.threads())?;
         Ok(Walker {
@@ -76,18 +81,20 @@ impl<'a> Walker<'a> {
         self.plan.threads()
     }
 
-    /// The run that was drawn.
-    pub fn into_trail(self) -> Trail {
-        Trail {
-            threads: self.plan.threads(),
-            moves: self.moves,
-        }
+    /// The moves of the run that was drawn.
+    pub fn into_moves(self) -> Items<Move>
+        ensures { result ≡ self.entry.moves }
+    {
+        self.moves
     }
 
     /// Moves, from where runs begin, until the run races or ends.
     pub fn walk(&mut self, program: &Program, run: &mut Running) -> Result<bool, NoMemory>
         requires indexed { IsIndexed program.now }
         requires of_run { IsRunOf program.now run.old.config }
+        requires walked { IsWalked program.now self.old.moves run.old.config }
+        ensures many { threads_of run.new.config ≡ threads_of run.old.config }
+        ensures races { IfOk result (λ races. IsTrue races → IsRaceOf program.now run.new.config self.new.moves) }
     {
         for _ in 0..LONGEST {
             match self.go(program, run) {
@@ -101,7 +108,10 @@ impl<'a> Walker<'a> {
     }
 
     /// Changes the order after the turn of the thread at a place of it.
-    fn went(&mut self, k: usize, turn: Turn) -> Result<Turn, NoMemory> {
+    fn went(&mut self, k: usize, turn: Turn) -> Result<Turn, NoMemory>
+        ensures turn { IfOk result (λ after. after ≡ turn) }
+        ensures moves { self.new.moves ≡ self.old.moves }
+    {
         match turn {
             Turn::Went => self.order.moved(k, self.random)?,
             Turn::Waits => self.order.give_way(k, self.random)?,
@@ -115,7 +125,10 @@ impl<'a> Walker<'a> {
     fn go(&mut self, program: &Program, run: &mut Running) -> Result<Turn, NoMemory>
         requires indexed { IsIndexed program.now }
         requires of_run { IsRunOf program.now run.old.config }
+        requires walked { IsWalked program.now self.old.moves run.old.config }
         ensures of_run { IsRunOf program.now run.new.config }
+        ensures many { threads_of run.new.config ≡ threads_of run.old.config }
+        ensures turned { IfOk result (λ turn. IsTurned program.now turn self.new.moves run.new.config) }
     {
         for k in 0..self.order.len() {
             let t = self.order.at(k);
@@ -132,7 +145,10 @@ impl<'a> Walker<'a> {
     fn turn(&mut self, program: &Program, run: &mut Running, t: u32) -> Result<Turn, NoMemory>
         requires indexed { IsIndexed program.now }
         requires of_run { IsRunOf program.now run.old.config }
+        requires walked { IsWalked program.now self.old.moves run.old.config }
         ensures of_run { IsRunOf program.now run.new.config }
+        ensures many { threads_of run.new.config ≡ threads_of run.old.config }
+        ensures turned { IfOk result (λ turn. IsTurned program.now turn self.new.moves run.new.config) }
     {
         match run.config.point(t) {
             None => self.begin(program, run, t),
@@ -145,8 +161,11 @@ impl<'a> Walker<'a> {
 
     /// Lets an idle thread begin an operation that is drawn.
     fn begin(&mut self, program: &Program, run: &mut Running, t: u32) -> Result<Turn, NoMemory>
-        requires { IsRunOf program.now run.old.config }
-        ensures { IsRunOf program.now run.new.config }
+        requires of_run { IsRunOf program.now run.old.config }
+        requires walked { IsWalked program.now self.old.moves run.old.config }
+        ensures of_run { IsRunOf program.now run.new.config }
+        ensures many { threads_of run.new.config ≡ threads_of run.old.config }
+        ensures turned { IfOk result (λ turn. IsTurned program.now turn self.new.moves run.new.config) }
     {
         let ops = program.flow.file.ops.as_slice();
         let op = self.random.below(ops.len().min(65_535) as u32) as u16;
@@ -174,7 +193,10 @@ impl<'a> Walker<'a> {
     ) -> Result<Turn, NoMemory>
         requires indexed { IsIndexed program.now }
         requires of_run { IsRunOf program.now run.old.config }
+        requires walked { IsWalked program.now self.old.moves run.old.config }
         ensures of_run { IsRunOf program.now run.new.config }
+        ensures many { threads_of run.new.config ≡ threads_of run.old.config }
+        ensures turned { IfOk result (λ turn. IsTurned program.now turn self.new.moves run.new.config) }
     {
         let count = program.steps.leaving(at).len().min(65_535) as u32;
         let first = self.random.below(count);
@@ -203,8 +225,11 @@ impl<'a> Walker<'a> {
         nth: u16,
         step: &Step,
     ) -> Result<Turn, NoMemory>
-        requires { IsRunOf program.now run.old.config }
-        ensures { IsRunOf program.now run.new.config }
+        requires of_run { IsRunOf program.now run.old.config }
+        requires walked { IsWalked program.now self.old.moves run.old.config }
+        ensures of_run { IsRunOf program.now run.new.config }
+        ensures many { threads_of run.new.config ≡ threads_of run.old.config }
+        ensures turned { IfOk result (λ turn. IsTurned program.now turn self.new.moves run.new.config) }
     {
         if writes(step.prims.as_slice()) && self.order.waits(self.random) {
             return Ok(Turn::Waits);
@@ -217,7 +242,9 @@ impl<'a> Walker<'a> {
     }
 
     /// The address that is drawn for a step, if it makes a node.
-    fn address(&mut self, step: &Step) -> Option<u32> {
+    fn address(&mut self, step: &Step) -> Option<u32>
+        ensures { self.new.moves ≡ self.old.moves }
+    {
         if has_new(step.prims.as_slice()) {
             Some(self.plan.address(self.random))
         } else {
@@ -226,7 +253,10 @@ impl<'a> Walker<'a> {
     }
 
     /// Notes that a step was taken with an address. One that does nothing is seen by no other thread.
-    fn took(&mut self, addr: Option<u32>, step: &Step) -> Turn {
+    fn took(&mut self, addr: Option<u32>, step: &Step) -> Turn
+        ensures moves { self.new.moves ≡ self.old.moves }
+        ensures goes { result ≡ Went ⊎ result ≡ Passed }
+    {
         match addr {
             Some(a) => self.plan.used(a),
             None if step.prims.is_empty() => return Turn::Passed,
@@ -237,13 +267,19 @@ impl<'a> Walker<'a> {
 
     /// Makes a move, if there is one, and frees what may be freed after it.
     fn make(&mut self, program: &Program, run: &mut Running, m: Move) -> Result<Turn, NoMemory>
-        requires { IsRunOf program.now run.old.config }
-        ensures { IsRunOf program.now run.new.config }
+        requires of_run { IsRunOf program.now run.old.config }
+        requires walked { IsWalked program.now self.old.moves run.old.config }
+        ensures of_run { IsRunOf program.now run.new.config }
+        ensures many { threads_of run.new.config ≡ threads_of run.old.config }
+        ensures turned { IfOk result (λ turn. IsTurned program.now turn self.new.moves run.new.config) }
     {
         let before = run.config.history().len();
         match run.make(program, &m) {
             Ok(Moved::Done) => self.made(program, run, m, before),
-            Ok(Moved::Race { .. }) => self.raced(m),
+            Ok(Moved::Race { .. }) => {
+                self.moves.push(m)?;
+                Ok(Turn::Raced)
+            }
             Ok(Moved::Blocked | Moved::Forbidden { .. }) => Ok(Turn::Stuck),
             Err(fault) => Err(fault),
         }
@@ -257,8 +293,11 @@ impl<'a> Walker<'a> {
         m: Move,
         before: usize,
     ) -> Result<Turn, NoMemory>
-        requires { IsRunOf program.now run.old.config }
-        ensures { IsRunOf program.now run.new.config }
+        requires of_run { IsRunOf program.now run.old.config }
+        requires walked { IsWalked program.now (self.old.moves ++ m ∷ []) run.old.config }
+        ensures of_run { IsRunOf program.now run.new.config }
+        ensures many { threads_of run.new.config ≡ threads_of run.old.config }
+        ensures turned { IfOk result (λ turn. IsTurned program.now turn self.new.moves run.new.config) }
     {
         self.moves.push(m)?;
         self.note_retired(&run.config, before)?;
@@ -266,14 +305,10 @@ impl<'a> Walker<'a> {
         Ok(Turn::Went)
     }
 
-    /// Keeps a move that is a race.
-    fn raced(&mut self, m: Move) -> Result<Turn, NoMemory> {
-        self.moves.push(m)?;
-        Ok(Turn::Raced)
-    }
-
     /// Notes what the events after so many retire.
-    fn note_retired(&mut self, config: &Config, before: usize) -> Result<(), NoMemory> {
+    fn note_retired(&mut self, config: &Config, before: usize) -> Result<(), NoMemory>
+        ensures { self.new.moves ≡ self.old.moves }
+    {
         for event in config.history().iter().skip(before) {
             if let Some(a) = retired_in(event) {
                 self.plan.retire(a)?;
@@ -283,15 +318,20 @@ impl<'a> Walker<'a> {
     }
 
     /// Keeps the free of an address.
-    fn freed(&mut self, a: u32) -> Result<(), NoMemory> {
+    fn freed(&mut self, a: u32) -> Result<(), NoMemory>
+        ensures { OnOk result (self.new.moves ≡ self.old.moves ++ Free a ∷ []) }
+    {
         self.moves.push(Move::Free { a })?;
         self.plan.free(a)
     }
 
     /// Frees what may be freed.
     fn free(&mut self, program: &Program, run: &mut Running) -> Result<(), NoMemory>
-        requires { IsRunOf program.now run.old.config }
-        ensures { IsRunOf program.now run.new.config }
+        requires of_run { IsRunOf program.now run.old.config }
+        requires walked { IsWalked program.now self.old.moves run.old.config }
+        ensures of_run { IsRunOf program.now run.new.config }
+        ensures many { threads_of run.new.config ≡ threads_of run.old.config }
+        ensures walked { OnOk result (IsWalked program.now self.new.moves run.new.config) }
     {
         for _ in 0..MOST_FREES {
             if self.plan.retired().is_empty() {
