@@ -1,5 +1,6 @@
-//! Runs of a program that are drawn until one races, and are then made short. Nothing here judges: whoever shows that a
-//! run races follows it once more, as `plc_hunting` does.
+//! Runs of a program that are drawn until one races, and are then made short. What is drawn and races is a run of the
+//! definition (`explore`); of what is made short nothing is said here. Whoever answers one follows it once more, as
+//! `plc_hunting` does.
 //!
 //! A run is drawn as in probabilistic concurrency testing (Burckhardt and others, ASPLOS 2010): the first thread moves
 //! that can, in an order that changes at a few moves. Addresses are used again as soon as they can be, since that is
