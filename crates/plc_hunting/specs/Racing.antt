@@ -1,5 +1,5 @@
 -- What is answered: a schedule that replays to a race, or a run that races.
-use Rattle.std.specs.Prelude.{◌≡◌, ◌⊎◌, ℕ, List, []}
+use Rattle.std.specs.Prelude.{◌≡◌, ◌⊎◌, ℕ, false, List, []}
 use Rattle.plc_moves.specs.declared.words.Move.{Move}
 use Rattle.plc_mem.specs.declared.cell.RaceKind.{RaceKind}
 use Rattle.plc_explore.specs.Racing.{IsRacingRun}
