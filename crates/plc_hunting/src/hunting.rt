@@ -1,6 +1,6 @@
 // A hunt in the bytes of a file: a short run of its program that races (quarry.rt) is written, and followed once more
 // as it is written. The answer rests on that alone.
-ghost use Rattle.std.specs.Prelude.{◌≡◌, ◌≤◌, [], false, IfOk, IfSome, IsTrue, length};
+ghost use Rattle.std.specs.Prelude.{◌≡◌, ◌≤◌, ◌<◌, [], false, IfOk, IfSome, IsTrue, length};
 ghost use Rattle.plc_base.specs.FileSizes.{largest_file};
 ghost use Rattle.plc_flow.specs.WellFormed.{FlowFits};
 ghost use Rattle.plc_cli.specs.Refusals.{load_fault_text};
@@ -141,7 +141,8 @@ fn hunted_in(
 
 /// The answer to a file that is refused.
 fn refused_file(alloc: Global, fault: &LoadFault) -> Result<Hunted, NoMemory>
-    ensures { IfOk result (λ h. (h.status ≡ refused) × (h.text.items ≡ load_fault_text fault.now)) }
+    ensures answer { IfOk result (λ h. (h.status ≡ refused) × (h.text.items ≡ load_fault_text fault.now)) }
+    ensures silent { IfOk result (λ h. h.said.items ≡ []) }
 {
     let answer = refusal(alloc, fault)?;
     Ok(Hunted {
@@ -161,7 +162,8 @@ pub fn hunt_under(
     reclaimer: &mut Box<dyn Reclaimer>,
 ) -> Result<Hunted, NoMemory>
     requires { length bytes.now ≤ largest_file }
-    ensures { IfOk result (λ h. IsHuntUnder (meanings reclaimer.old) bytes.now h.status h.text.items) }
+    ensures answer { IfOk result (λ h. IsHuntUnder (meanings reclaimer.old) bytes.now h.status h.text.items) }
+    ensures silent { IfOk result (λ h. fails < h.status → h.said.items ≡ []) }
 {
     match load(alloc, bytes) {
         Ok(judged) => hunted_in(alloc, judged, frees, seed, reclaimer),
@@ -211,7 +213,8 @@ fn hunted_freely_in(alloc: Global, judged: Judged, seed: u32) -> Result<Hunted, 
 /// was met with this seed. The one error is that memory runs out.
 pub fn hunt_freely(alloc: Global, bytes: &[u8], seed: u32) -> Result<Hunted, NoMemory>
     requires { length bytes.now ≤ largest_file }
-    ensures { IfOk result (λ h. IsFreeHunt bytes.now h.status h.text.items) }
+    ensures answer { IfOk result (λ h. IsFreeHunt bytes.now h.status h.text.items) }
+    ensures silent { IfOk result (λ h. fails < h.status → h.said.items ≡ []) }
 {
     match load(alloc, bytes) {
         Ok(judged) => hunted_freely_in(alloc, judged, seed),
