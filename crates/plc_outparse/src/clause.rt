@@ -22,7 +22,7 @@ use plc_tree::Clause as ClauseForm;
 use std::alloc::Global;
 
 /// A quantified name, which differs from those before and from all names in reach.
-#[tactic(auto, unfolding(crate::specs::Resolved::bound_with))]
+#[tactic(auto, unfolding(crate::specs::Meaning::bound_with))]
 fn bind(scope: &Scope, locals: &[Local], bound: &mut Names, name: Name) -> Resolved<()>
     requires locals { length locals.now ≤ most_locals }
     requires room { length bound.old.names < bound.old.limit }
@@ -40,7 +40,7 @@ fn bind(scope: &Scope, locals: &[Local], bound: &mut Names, name: Name) -> Resol
 }
 
 /// The quantified names of a clause, put where there is none yet.
-#[tactic(auto, unfolding(crate::specs::Resolved::bound_means))]
+#[tactic(auto, unfolding(crate::specs::Meaning::bound_means))]
 fn bind_all(scope: &Scope, locals: &[Local], bound: &mut Names, form: BoundForm) -> Resolved<()>
     requires locals { length locals.now ≤ most_locals }
     requires none { bound.old ≡ none_bound }
@@ -73,7 +73,7 @@ fn counted(count: usize, at: u32, meaning: Resolved<Literal>) -> Resolved<Litera
 }
 
 /// A further literal.
-#[tactic(auto, unfolding(crate::specs::Resolved::literal_step))]
+#[tactic(auto, unfolding(crate::specs::Meaning::literal_step))]
 fn add_literal(
     reach: &Reach,
     literals: &mut Items<Literal>,
@@ -105,7 +105,7 @@ fn add_literals(
 }
 
 /// The quantified names of a clause and its literals, put into a clause that has none yet.
-#[tactic(auto, unfolding(crate::specs::Resolved::clause_means))]
+#[tactic(auto, unfolding(crate::specs::Meaning::clause_means))]
 fn add_all(
     scope: &Scope,
     locals: &[Local],

@@ -28,7 +28,7 @@ pub struct Parts {
 }
 
 /// An invariant.
-#[tactic(auto, unfolding(crate::specs::Resolved::item_step))]
+#[tactic(auto, unfolding(crate::specs::Meaning::item_step))]
 fn add_invariant(alloc: Global, scope: &Scope, parts: &mut Parts, form: &ClauseForm) -> Resolved<()>
     ensures { (ops : List Op) (by_op : List (List ℕ)) → Gives (λ _. parts_of parts.new) result
         (item_step scope.now ops by_op (parts_of parts.old) (InvariantItem (clause_tree form.now))) }
@@ -51,7 +51,7 @@ fn clause_in(alloc: Global, context: &Context, op: usize, form: &ClauseForm) -> 
 }
 
 /// An item.
-#[tactic(auto, unfolding(crate::specs::Resolved::item_step))]
+#[tactic(auto, unfolding(crate::specs::Meaning::item_step))]
 fn add_item(alloc: Global, context: &Context, parts: &mut Parts, form: &ItemForm) -> Resolved<()>
     requires { IsWithinLimits context.now }
     ensures { Gives (λ _. parts_of parts.new) result

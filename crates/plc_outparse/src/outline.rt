@@ -36,7 +36,7 @@ fn depth(number: Option<Placed<u32>>) -> Resolved<u8>
 }
 
 /// The outline of a tree, once the labels of each operation are known.
-#[tactic(auto, unfolding(crate::specs::Resolved::outline_means))]
+#[tactic(auto, unfolding(crate::specs::Meaning::outline_means))]
 fn outline(alloc: Global, context: &Context, form: &OutlineForm) -> Resolved<Outline>
     requires limits { IsWithinLimits context.now }
     requires labels { context.now.by_op.now ≡ labels_by_op context.now.ops.now }

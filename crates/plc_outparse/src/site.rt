@@ -32,7 +32,7 @@ fn op_named(scope: &Scope, ops: &[Op], name: &[u8]) -> Option<u16>
 }
 
 /// The operation that a name is; `Undeclared`, or `WrongSort` for another thing.
-#[tactic(auto, unfolding(crate::specs::Resolved::op_at))]
+#[tactic(auto, unfolding(crate::specs::Meaning::op_at))]
 pub fn op_at(context: &Context, name: Name) -> Resolved<u16>
     requires { IsWithinLimits context.now }
     ensures { Gives (λ op. op) result (op_at context.now.scope.now context.now.ops.now (name_tree name.entry)) }
@@ -57,7 +57,7 @@ fn label_named(scope: &Scope, name: &[u8]) -> Option<u16>
 }
 
 /// The label that a name is, and its operation. `Undeclared` and `WrongSort` where it is none.
-#[tactic(auto, unfolding(crate::specs::Resolved::label_at))]
+#[tactic(auto, unfolding(crate::specs::Meaning::label_at))]
 fn label_at(context: &Context, name: Name) -> Resolved<(u16, usize)>
     requires { IsWithinLimits context.now }
     ensures { Gives (λ r. (r.0, r.1)) result
@@ -72,7 +72,7 @@ fn label_at(context: &Context, name: Name) -> Resolved<(u16, usize)>
 }
 
 /// A further label. `WrongSort` where it stands in another operation.
-#[tactic(auto, unfolding(crate::specs::Resolved::label_step))]
+#[tactic(auto, unfolding(crate::specs::Meaning::label_step))]
 fn add_label(context: &Context, op: usize, labels: &mut Items<u16>, name: Name) -> Resolved<()>
     requires { IsWithinLimits context.now }
     ensures { Gives (λ _. labels.new) result
@@ -99,7 +99,7 @@ fn add_labels(context: &Context, op: usize, labels: &mut Items<u16>, names: &[Na
 }
 
 /// Labels, with the operation in which all of them stand.
-#[tactic(auto, unfolding(crate::specs::Resolved::labels_mean))]
+#[tactic(auto, unfolding(crate::specs::Meaning::labels_mean))]
 pub fn labels(
     alloc: Global,
     context: &Context,

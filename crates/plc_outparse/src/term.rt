@@ -57,7 +57,7 @@ fn place(reach: &Reach, place: Place) -> Resolved<(Term, Sort)>
 }
 
 /// A term with its sort. An invariant has no thread that is in an operation.
-#[tactic(auto, unfolding(crate::specs::Resolved::term_means))]
+#[tactic(auto, unfolding(crate::specs::Meaning::term_means))]
 fn term(reach: &Reach, form: TermForm) -> Resolved<(Term, Sort)>
     requires { length reach.now.locals.now ≤ most_locals }
     ensures { Gives (λ r. (r.0, r.1)) result (term_means (reach_of reach.now) (term_tree form.entry)) }
@@ -85,7 +85,7 @@ fn sort_place(form: TermForm) -> u32
 }
 
 /// The second term of an equation, which has the sort of the first.
-#[tactic(auto, unfolding(crate::specs::Resolved::second_means))]
+#[tactic(auto, unfolding(crate::specs::Meaning::second_means))]
 fn second(reach: &Reach, sort: Sort, form: TermForm) -> Resolved<Term>
     requires { length reach.now.locals.now ≤ most_locals }
     ensures { Gives (λ r. r) result (second_means (reach_of reach.now) sort (term_tree form.entry)) }
@@ -154,7 +154,7 @@ fn flag(reach: &Reach, yes: bool, form: FlagForm) -> Resolved<Literal>
 
 /// The literal of a form. `Undeclared` for a name without a declaration in reach, and `WrongSort` for a
 /// term that can't stand there or a second one of another sort than the first.
-#[tactic(auto, unfolding(crate::specs::Resolved::literal_means))]
+#[tactic(auto, unfolding(crate::specs::Meaning::literal_means))]
 pub fn literal(reach: &Reach, form: LiteralForm) -> Resolved<Literal>
     requires { length reach.now.locals.now ≤ most_locals }
     ensures { Gives (λ r. r) result (literal_means (reach_of reach.now) (literal_tree form.entry)) }

@@ -216,7 +216,7 @@ fn parts(
 }
 
 /// The unit that a file's tree means, with the lines of its tokens.
-#[tactic(auto, unfolding(crate::specs::Resolved::file_means))]
+#[tactic(auto, unfolding(crate::specs::Meaning::file_means))]
 pub fn file_unit(alloc: Global, tokens: &[Token], form: &FileForm) -> Resolved<Unit>
     ensures { Gives (λ unit. unit) result (file_means (lines_of tokens.now) (file_tree form.now)) }
 {

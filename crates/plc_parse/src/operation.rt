@@ -23,7 +23,7 @@ use plc_tree::Operation;
 use std::alloc::Global;
 
 /// An operation on a line, with so many before it.
-#[tactic(auto, unfolding(crate::specs::Resolved::op_means))]
+#[tactic(auto, unfolding(crate::specs::Meaning::op_means))]
 fn operation(
     alloc: Global,
     scope: &mut Scope,
