@@ -1,9 +1,8 @@
 -- What `plc-hunt` does: which text is due with which status, and to which of two sinks it goes.
-use Rattle.std.specs.Prelude.{◌≡◌, ◌≤◌, ◌<◌, ◌⊎◌, ℕ, List, [], Option, Some, None}
+use Rattle.std.specs.Prelude.{◌≡◌, ◌≤◌, ◌<◌, ◌⊎◌, ℕ, List, Option, Some, None}
 use Rattle.plc_auto.specs.declared.event.Event.{Event}
 use Rattle.plc_auto.specs.declared.scheme.Scheme.{Scheme}
 use Rattle.plc_outside.specs.Known.{KnownFiles, KnownSink}
-use Rattle.plc_outside.specs.Outside.{Appends}
 use Rattle.plc_reclaim.specs.Meanings.{Meanings}
 use Rattle.plc_reclaim.specs.Rows.{ActsAs}
 use Rattle.plc_cli.specs.Answer.{Ends, IsWordsRefused}
@@ -49,7 +48,7 @@ pub record IsHunted (request : Option Request) (old new : KnownFiles) (before no
   pub text : List ℕ
   pub due : IsDueFor request old new status text
   pub ends : Ends status text before.out now.out result
-  pub silent : fails < status → Appends before.said now.said []
+  pub silent : fails < status → now.said ≡ before.said
 
 -- memory ran out before a text was made, and nothing was written
 pub record IsNotMade (before now : Outputs) (result : ℕ) : Type 0 where

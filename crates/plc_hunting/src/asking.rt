@@ -3,7 +3,6 @@
 // may hand out a value of a trait.
 ghost use Rattle.std.specs.Prelude.{◌≡◌, ◌≤◌, ◌<◌, [], None, IfOk, length, map, string_bytes};
 ghost use Rattle.plc_base.specs.FileSizes.{largest_file};
-ghost use Rattle.plc_outside.specs.Outside.{Appends};
 ghost use Rattle.plc_answers.specs.Refusals.{words_refused_text};
 ghost use Rattle.plc_cli.specs.Answer.{Ends};
 ghost use Rattle.plc_cli.specs.Reads.{FilesAreKept, IsDueForFile};
@@ -111,11 +110,14 @@ fn answer_to<F: Files>(alloc: Global, words: &[String], files: &mut F) -> Result
     }
 }
 
-/// Says what is said beside a text. What can't be said changes no status.
+/// Says what is said beside a text, if anything is. What can't be said changes no status.
 fn say<T: Sink>(said: &mut T, hunted: &Hunted)
-    ensures silent { hunted.now.said.items ≡ [] → Appends (T.known said.old) (T.known said.new) [] }
+    ensures silent { hunted.now.said.items ≡ [] → T.known said.new ≡ T.known said.old }
     ensures kept { (T.known said.old).faults ≤ (T.known said.new).faults }
 {
+    if hunted.said.is_empty() {
+        return;
+    }
     let _ = write_text(said, &hunted.said);
 }
 

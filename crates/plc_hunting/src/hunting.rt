@@ -1,4 +1,4 @@
-// A hunt in the bytes of a file: a short run of its program that races (quarry.rt) is written, and followed once more
+// A hunt in the bytes of a file: a short run of its program that races (drawing.rt) is written, and followed once more
 // as it is written. The answer rests on that alone.
 ghost use Rattle.std.specs.Prelude.{◌≡◌, ◌≤◌, ◌<◌, [], false, IfOk, IfSome, IsTrue, length};
 ghost use Rattle.plc_base.specs.FileSizes.{largest_file};
@@ -10,7 +10,7 @@ ghost use Rattle.plc_hunting.specs.Trails.{TrailRaces};
 ghost use Rattle.plc_hunting.specs.Racing.{IsHuntedBy, IsHuntUnder, IsHuntedFreely, IsFreeHunt};
 
 use crate::account::push_account;
-use crate::quarry::{Quarry, hunt_judged};
+use crate::drawing::{HuntResult, hunt_judged};
 use crate::racing::{run_races, schedule_races};
 use crate::writing::run_text;
 use plc_answers::{push, push_number, push_numbered};
@@ -39,13 +39,13 @@ pub struct Hunted {
 fn said_of(
     alloc: Global,
     judged: &Judged,
-    quarry: &Quarry,
+    found: &HuntResult,
     races: bool,
 ) -> Result<Vec<u8>, AllocError> {
     let mut said = Vec::new(alloc);
-    match &quarry.account {
+    match &found.account {
         Some(account) if races => push_account(&mut said, &judged.flow.file, account)?,
-        _ if quarry.runs == 0 => push(
+        _ if found.runs == 0 => push(
             &mut said,
             "no run was drawn: the program has none, or no operation\n",
         )?,
@@ -54,11 +54,11 @@ fn said_of(
             "no race was met, which says nothing of other runs\n",
         )?,
     }
-    push_numbered(&mut said, "seed ", quarry.seed)?;
+    push_numbered(&mut said, "seed ", found.seed)?;
     push(&mut said, ", runs ")?;
-    push_number(&mut said, quarry.runs)?;
+    push_number(&mut said, found.runs)?;
     push(&mut said, ", moves ")?;
-    push_number(&mut said, quarry.moves)?;
+    push_number(&mut said, found.moves)?;
     push(&mut said, "\n")?;
     Ok(said)
 }
@@ -116,10 +116,10 @@ fn hunted_by(
     requires fits { FlowFits judged.now.flow }
     ensures { IfOk result (λ h. IsHuntedBy (meanings reclaimer.old) judged.now h.status h.text.items) }
 {
-    let quarry = hunt_judged(alloc, judged, frees, seed)?;
-    let text = text_of(alloc, judged, true, &quarry.trail)?;
+    let found = hunt_judged(alloc, judged, frees, seed)?;
+    let text = text_of(alloc, judged, true, &found.trail)?;
     let races = schedule_races(alloc, judged, &text, reclaimer)?;
-    let said = said_of(alloc, judged, &quarry, races)?;
+    let said = said_of(alloc, judged, &found, races)?;
     Ok(answer_of(alloc, races, text, said))
 }
 
@@ -192,10 +192,10 @@ fn hunted_freely(alloc: Global, judged: &Judged, seed: u32) -> Result<Hunted, No
     requires fits { FlowFits judged.now.flow }
     ensures { IfOk result (λ h. IsHuntedFreely judged.now h.status h.text.items) }
 {
-    let quarry = hunt_judged(alloc, judged, Frees::Any, seed)?;
-    let text = text_of(alloc, judged, false, &quarry.trail)?;
-    let races = trail_races(alloc, judged, &quarry.trail)?;
-    let said = said_of(alloc, judged, &quarry, races)?;
+    let found = hunt_judged(alloc, judged, Frees::Any, seed)?;
+    let text = text_of(alloc, judged, false, &found.trail)?;
+    let races = trail_races(alloc, judged, &found.trail)?;
+    let said = said_of(alloc, judged, &found, races)?;
     Ok(answer_of(alloc, races, text, said))
 }
 

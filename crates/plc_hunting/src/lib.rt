@@ -7,9 +7,9 @@
 
 mod account;
 mod asking;
+mod drawing;
 mod hunting;
 mod laws;
-mod quarry;
 mod racing;
 mod words;
 mod writing;
