@@ -1,6 +1,6 @@
-// One way through the program: words, read, hunt, write. A reclaimer is made twice, once for the runs that are drawn and
-// once for the replay of the schedule that is found; both are made in the call that hands them on, since no function
-// may hand out a value of a trait.
+// One way through the program: words, read, hunt, write. A reclaimer is made twice, once for the runs that are drawn
+// and once for the replay of the schedule that is found; both are made in the call that hands them on, since no
+// function may hand out a value of a trait.
 ghost use Rattle.std.specs.Prelude.{◌≡◌, ◌≤◌, ◌<◌, [], None, IfOk, length, map, string_bytes};
 ghost use Rattle.plc_base.specs.FileSizes.{largest_file};
 ghost use Rattle.plc_answers.specs.Refusals.{words_refused_text};

@@ -1,8 +1,8 @@
 //! The command line of `plc-hunt`: a run of a file's program that races, as a schedule, by the words that are given.
 //! Runs are drawn (`plc_explore`), and what is answered was followed once more: as a schedule that `replay` under the
 //! same reclaimer answers with a race, or, where any allowed free may come, as a run of the definition.
-//! `hunt` promises for all words which text is due, with its status, that it goes to the first of two outputs and what is
-//! said beside a hunt to the second, and how far the text was written.
+//! `hunt` promises for all words which text is due, with its status, that it goes to the first of two outputs and what
+//! is said beside a hunt to the second, and how far the text was written.
 #![tactic(auto)]
 
 mod account;
