@@ -1,2 +1,4 @@
 -- what contracts say for the crates above alone
+pub mod Racing
 pub mod Running
+pub mod Walking

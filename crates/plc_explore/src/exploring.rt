@@ -1,5 +1,8 @@
 // Runs are drawn one after the other, until one races or as many moves were made as there may be.
+ghost use Rattle.std.specs.Prelude.{◌≡◌, ◌<◌, [], IfOk, IfSome, IsTrue, OnOk};
+ghost use Rattle.plc_explore.specs.declared.program.Program.{Program};
 ghost use Rattle.plc_explore.specs.Running.{IsIndexed, IsRunOf};
+ghost use Rattle.plc_explore.specs.Walking.{HasCome, RacesIn, FoundRaces};
 
 use crate::frees::Frees;
 use crate::program::Program;
@@ -30,6 +33,9 @@ struct Drawn {
 fn walk(walker: &mut Walker, program: &Program, mut run: Running) -> Result<Option<bool>, NoMemory>
     requires indexed { IsIndexed program.now }
     requires of_run { IsRunOf program.now run.config }
+    requires come { HasCome program.now walker.old.threads walker.old.moves run.config }
+    ensures races { IfOk result (λ walked. IfSome walked (λ races. IsTrue races
+        → RacesIn program.now walker.new.threads walker.new.moves)) }
 {
     let races = walker.walk(program, &mut run);
     drop(run);
@@ -46,7 +52,11 @@ fn begin_and_walk(
     frees: &mut Frees,
     walker: &mut Walker,
 ) -> Result<Option<bool>, NoMemory>
-    requires { IsIndexed program.now }
+    requires indexed { IsIndexed program.now }
+    requires some { 0 < walker.old.threads }
+    requires none { walker.old.moves ≡ [] }
+    ensures races { IfOk result (λ walked. IfSome walked (λ races. IsTrue races
+        → RacesIn program.now walker.new.threads walker.new.moves)) }
 {
     match Running::begin(alloc, program, frees, walker.threads()) {
         Ok(Some(run)) => walk(walker, program, run),
@@ -63,6 +73,8 @@ fn draw(
     random: &mut Random,
 ) -> Result<Option<Drawn>, NoMemory>
     requires { IsIndexed program.now }
+    ensures { IfOk result (λ drawn. IfSome drawn (λ run. IsTrue run.races
+        → RacesIn program.now run.trail.threads run.trail.moves)) }
 {
     if program.flow.file.ops.is_empty() {
         return Ok(None);
@@ -79,7 +91,11 @@ fn draw(
 
 impl Explored {
     /// Counts a run that was drawn, and keeps it if it races.
-    fn add(&mut self, drawn: Drawn) {
+    fn add(&mut self, drawn: Drawn)
+        ensures { (program : Program) → FoundRaces program self.old.trail
+            → (IsTrue drawn.races → RacesIn program drawn.trail.threads drawn.trail.moves)
+            → FoundRaces program self.new.trail }
+    {
         self.runs = self.runs.saturating_add(1);
         self.moves = self.moves.saturating_add(drawn.trail.moves.len() as u64);
         if drawn.races {
@@ -97,7 +113,9 @@ fn explore_into(
     random: &mut Random,
     most: u64,
 ) -> Result<(), NoMemory>
-    requires { IsIndexed program.now }
+    requires indexed { IsIndexed program.now }
+    requires races { FoundRaces program.now explored.old.trail }
+    ensures races { OnOk result (FoundRaces program.now explored.new.trail) }
 {
     for _ in 0..most {
         match draw(alloc, program, frees, random) {
@@ -113,7 +131,7 @@ fn explore_into(
 }
 
 /// Draws runs until one races, or until this many moves were made. Where the program has no run, or no operation, none
-/// is drawn. The one error is that memory runs out.
+/// is drawn. What is found is a run that races, with whatever was freed. The one error is that memory runs out.
 pub fn explore(
     alloc: Global,
     program: &Program,
@@ -122,6 +140,7 @@ pub fn explore(
     most: u64,
 ) -> Result<Explored, NoMemory>
     requires { IsIndexed program.now }
+    ensures { IfOk result (λ explored. FoundRaces program.now explored.trail) }
 {
     let mut explored = Explored {
         trail: None,

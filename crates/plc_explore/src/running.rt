@@ -1,7 +1,9 @@
 // A run as it goes on. Whoever draws one, makes one short or tells of its race makes its moves here, so that whoever
 // says what is freed hears all that happens.
-ghost use Rattle.std.specs.Prelude.{◌<◌, IfOk, IfSome};
+ghost use Rattle.std.specs.Prelude.{◌<◌, [], IfOk, IfSome};
+ghost use Rattle.plc_run.specs.Position.{Answers};
 ghost use Rattle.plc_explore.specs.Running.{IsIndexed, IsRunOf, MayRun};
+ghost use Rattle.plc_explore.specs.Walking.{HasCome};
 
 use crate::frees::Frees;
 use crate::program::Program;
@@ -56,6 +58,7 @@ impl<'a> Running<'a> {
         requires may { MayRun program.now }
         requires some { 0 < threads }
         ensures of_run { IfOk result (λ begun. IfSome begun (λ run. IsRunOf program.now run.config)) }
+        ensures begins { IfOk result (λ begun. IfSome begun (λ run. HasCome program.now threads [] run.config)) }
     {
         frees.begin(program.schemes)?;
         match Config::start(alloc, program.flow, program.observer, threads) {
@@ -68,7 +71,8 @@ impl<'a> Running<'a> {
     /// Makes a move, and hands its events over.
     pub fn make(&mut self, program: &Program, m: &Move) -> Result<Moved, NoMemory>
         requires { IsRunOf program.now self.old.config }
-        ensures { IsRunOf program.now self.new.config }
+        ensures of_run { IsRunOf program.now self.new.config }
+        ensures answers { IfOk result (λ moved. Answers program.now.flow.now program.now.observer.now self.old.config m.now moved self.new.config) }
     {
         let before = self.config.history().len();
         let moved = self.config.step(program.flow, program.observer, m)?;
@@ -79,7 +83,8 @@ impl<'a> Running<'a> {
     /// Frees an address.
     pub fn free(&mut self, program: &Program, a: u32) -> Result<Moved, NoMemory>
         requires { IsRunOf program.now self.old.config }
-        ensures { IsRunOf program.now self.new.config }
+        ensures of_run { IsRunOf program.now self.new.config }
+        ensures answers { IfOk result (λ moved. Answers program.now.flow.now program.now.observer.now self.old.config (Move.Free a) moved self.new.config) }
     {
         let m = Move::Free { a };
         self.make(program, &m)

@@ -1,8 +1,11 @@
 // A run that is drawn: threads move in an order that changes (order.rt), each by a move that is drawn among those that
 // it has, and after each move what may be freed is freed. The run ends at the first race, where no thread can move, or
 // where it grows too long.
-ghost use Rattle.std.specs.Prelude.{◌<◌};
+ghost use Rattle.std.specs.Prelude.{◌≡◌, ◌<◌, ◌++◌, ◌∷◌, [], IfOk, OnOk, IsTrue};
+ghost use Rattle.plc_run.specs.Position.{Position};
+ghost use Rattle.plc_explore.specs.declared.program.Program.{Program};
 ghost use Rattle.plc_explore.specs.Running.{IsIndexed, IsRunOf};
+ghost use Rattle.plc_explore.specs.Walking.{HasCome, RacesIn, HasTurned};
 
 use crate::order::Order;
 use crate::outlook::Outlook;
@@ -45,6 +48,9 @@ pub struct Walker<'a> {
     random: &'a mut Random,
     plan: Plan,
     order: Order,
+    /// How many threads the run has.
+    threads: u32,
+    /// The moves that were made so far.
     moves: Items<Move>,
 }
 
@@ -58,28 +64,36 @@ fn is_exit(program: &Program, point: Point) -> bool {
 
 impl<'a> Walker<'a> {
     /// Who draws a run, with what is drawn before its first move.
-    pub fn new(alloc: Global, random: &'a mut Random) -> Result<Walker<'a>, NoMemory> {
+    pub fn new(alloc: Global, random: &'a mut Random) -> Result<Walker<'a>, NoMemory>
+        ensures some { IfOk result (λ walker. 0 < walker.threads) }
+        ensures none { IfOk result (λ walker. walker.moves ≡ []) }
+    {
         let plan = Plan::draw(alloc, random)?;
-        let order = Order::draw(alloc, random, plan.threads())?;
+        let threads = plan.threads();
+        let order = Order::draw(alloc, random, threads)?;
         Ok(Walker {
             random,
             plan,
             order,
+            threads,
             moves: Items::new(alloc),
         })
     }
 
     /// How many threads the run has.
     pub fn threads(&self) -> u32
-        ensures { 0 < result }
+        ensures { result ≡ self.now.threads }
     {
-        self.plan.threads()
+        self.threads
     }
 
     /// The run that was drawn.
-    pub fn into_trail(self) -> Trail {
+    pub fn into_trail(self) -> Trail
+        ensures threads { result.threads ≡ self.threads }
+        ensures moves { result.moves ≡ self.moves }
+    {
         Trail {
-            threads: self.plan.threads(),
+            threads: self.threads,
             moves: self.moves,
         }
     }
@@ -88,6 +102,8 @@ impl<'a> Walker<'a> {
     pub fn walk(&mut self, program: &Program, run: &mut Running) -> Result<bool, NoMemory>
         requires indexed { IsIndexed program.now }
         requires of_run { IsRunOf program.now run.old.config }
+        requires come { HasCome program.now self.old.threads self.old.moves run.old.config }
+        ensures races { IfOk result (λ races. IsTrue races → RacesIn program.now self.new.threads self.new.moves) }
     {
         for _ in 0..LONGEST {
             match self.go(program, run) {
@@ -101,7 +117,11 @@ impl<'a> Walker<'a> {
     }
 
     /// Changes the order after the turn of the thread at a place of it.
-    fn went(&mut self, k: usize, turn: Turn) -> Result<Turn, NoMemory> {
+    fn went(&mut self, k: usize, turn: Turn) -> Result<Turn, NoMemory>
+        ensures same { IfOk result (λ went. went ≡ turn) }
+        ensures threads { self.new.threads ≡ self.old.threads }
+        ensures moves { self.new.moves ≡ self.old.moves }
+    {
         match turn {
             Turn::Went => self.order.moved(k, self.random)?,
             Turn::Waits => self.order.give_way(k, self.random)?,
@@ -115,7 +135,10 @@ impl<'a> Walker<'a> {
     fn go(&mut self, program: &Program, run: &mut Running) -> Result<Turn, NoMemory>
         requires indexed { IsIndexed program.now }
         requires of_run { IsRunOf program.now run.old.config }
+        requires come { HasCome program.now self.old.threads self.old.moves run.old.config }
         ensures of_run { IsRunOf program.now run.new.config }
+        ensures turned { IfOk result (λ turn.
+            HasTurned program.now turn self.new.threads self.new.moves run.new.config) }
     {
         for k in 0..self.order.len() {
             let t = self.order.at(k);
@@ -132,7 +155,10 @@ impl<'a> Walker<'a> {
     fn turn(&mut self, program: &Program, run: &mut Running, t: u32) -> Result<Turn, NoMemory>
         requires indexed { IsIndexed program.now }
         requires of_run { IsRunOf program.now run.old.config }
+        requires come { HasCome program.now self.old.threads self.old.moves run.old.config }
         ensures of_run { IsRunOf program.now run.new.config }
+        ensures turned { IfOk result (λ turn.
+            HasTurned program.now turn self.new.threads self.new.moves run.new.config) }
     {
         match run.config.point(t) {
             None => self.begin(program, run, t),
@@ -145,8 +171,11 @@ impl<'a> Walker<'a> {
 
     /// Lets an idle thread begin an operation that is drawn.
     fn begin(&mut self, program: &Program, run: &mut Running, t: u32) -> Result<Turn, NoMemory>
-        requires { IsRunOf program.now run.old.config }
-        ensures { IsRunOf program.now run.new.config }
+        requires of_run { IsRunOf program.now run.old.config }
+        requires come { HasCome program.now self.old.threads self.old.moves run.old.config }
+        ensures of_run { IsRunOf program.now run.new.config }
+        ensures turned { IfOk result (λ turn.
+            HasTurned program.now turn self.new.threads self.new.moves run.new.config) }
     {
         let ops = program.flow.file.ops.as_slice();
         let op = self.random.below(ops.len().min(65_535) as u32) as u16;
@@ -174,7 +203,10 @@ impl<'a> Walker<'a> {
     ) -> Result<Turn, NoMemory>
         requires indexed { IsIndexed program.now }
         requires of_run { IsRunOf program.now run.old.config }
+        requires come { HasCome program.now self.old.threads self.old.moves run.old.config }
         ensures of_run { IsRunOf program.now run.new.config }
+        ensures turned { IfOk result (λ turn.
+            HasTurned program.now turn self.new.threads self.new.moves run.new.config) }
     {
         let count = program.steps.leaving(at).len().min(65_535) as u32;
         let first = self.random.below(count);
@@ -203,8 +235,11 @@ impl<'a> Walker<'a> {
         nth: u16,
         step: &Step,
     ) -> Result<Turn, NoMemory>
-        requires { IsRunOf program.now run.old.config }
-        ensures { IsRunOf program.now run.new.config }
+        requires of_run { IsRunOf program.now run.old.config }
+        requires come { HasCome program.now self.old.threads self.old.moves run.old.config }
+        ensures of_run { IsRunOf program.now run.new.config }
+        ensures turned { IfOk result (λ turn.
+            HasTurned program.now turn self.new.threads self.new.moves run.new.config) }
     {
         if writes(step.prims.as_slice()) && self.order.waits(self.random) {
             return Ok(Turn::Waits);
@@ -217,7 +252,10 @@ impl<'a> Walker<'a> {
     }
 
     /// The address that is drawn for a step, if it makes a node.
-    fn address(&mut self, step: &Step) -> Option<u32> {
+    fn address(&mut self, step: &Step) -> Option<u32>
+        ensures threads { self.new.threads ≡ self.old.threads }
+        ensures moves { self.new.moves ≡ self.old.moves }
+    {
         if has_new(step.prims.as_slice()) {
             Some(self.plan.address(self.random))
         } else {
@@ -226,7 +264,10 @@ impl<'a> Walker<'a> {
     }
 
     /// Notes that a step was taken with an address. One that does nothing is seen by no other thread.
-    fn took(&mut self, addr: Option<u32>, step: &Step) -> Turn {
+    fn took(&mut self, addr: Option<u32>, step: &Step) -> Turn
+        ensures turned { (p : Program) (at : Position) → HasCome p self.old.threads self.old.moves at
+            → HasTurned p result self.new.threads self.new.moves at }
+    {
         match addr {
             Some(a) => self.plan.used(a),
             None if step.prims.is_empty() => return Turn::Passed,
@@ -236,9 +277,13 @@ impl<'a> Walker<'a> {
     }
 
     /// Makes a move, if there is one, and frees what may be freed after it.
+    #[tactic(auto, using(crate::proofs::Walking::comes_on, crate::proofs::Walking::race_ends))]
     fn make(&mut self, program: &Program, run: &mut Running, m: Move) -> Result<Turn, NoMemory>
-        requires { IsRunOf program.now run.old.config }
-        ensures { IsRunOf program.now run.new.config }
+        requires of_run { IsRunOf program.now run.old.config }
+        requires come { HasCome program.now self.old.threads self.old.moves run.old.config }
+        ensures of_run { IsRunOf program.now run.new.config }
+        ensures turned { IfOk result (λ turn.
+            HasTurned program.now turn self.new.threads self.new.moves run.new.config) }
     {
         let before = run.config.history().len();
         match run.make(program, &m) {
@@ -257,8 +302,11 @@ impl<'a> Walker<'a> {
         m: Move,
         before: usize,
     ) -> Result<Turn, NoMemory>
-        requires { IsRunOf program.now run.old.config }
-        ensures { IsRunOf program.now run.new.config }
+        requires of_run { IsRunOf program.now run.old.config }
+        requires come { HasCome program.now self.old.threads (self.old.moves ++ m ∷ []) run.old.config }
+        ensures of_run { IsRunOf program.now run.new.config }
+        ensures turned { IfOk result (λ turn.
+            HasTurned program.now turn self.new.threads self.new.moves run.new.config) }
     {
         self.moves.push(m)?;
         self.note_retired(&run.config, before)?;
@@ -267,13 +315,20 @@ impl<'a> Walker<'a> {
     }
 
     /// Keeps a move that is a race.
-    fn raced(&mut self, m: Move) -> Result<Turn, NoMemory> {
+    fn raced(&mut self, m: Move) -> Result<Turn, NoMemory>
+        ensures raced { IfOk result (λ turn. turn ≡ Turn.Raced) }
+        ensures threads { self.new.threads ≡ self.old.threads }
+        ensures moves { OnOk result (self.new.moves ≡ self.old.moves ++ m ∷ []) }
+    {
         self.moves.push(m)?;
         Ok(Turn::Raced)
     }
 
     /// Notes what the events after so many retire.
-    fn note_retired(&mut self, config: &Config, before: usize) -> Result<(), NoMemory> {
+    fn note_retired(&mut self, config: &Config, before: usize) -> Result<(), NoMemory>
+        ensures threads { self.new.threads ≡ self.old.threads }
+        ensures moves { self.new.moves ≡ self.old.moves }
+    {
         for event in config.history().iter().skip(before) {
             if let Some(a) = retired_in(event) {
                 self.plan.retire(a)?;
@@ -283,15 +338,20 @@ impl<'a> Walker<'a> {
     }
 
     /// Keeps the free of an address.
-    fn freed(&mut self, a: u32) -> Result<(), NoMemory> {
+    fn freed(&mut self, a: u32) -> Result<(), NoMemory>
+        ensures threads { self.new.threads ≡ self.old.threads }
+        ensures moves { OnOk result (self.new.moves ≡ self.old.moves ++ Move.Free a ∷ []) }
+    {
         self.moves.push(Move::Free { a })?;
         self.plan.free(a)
     }
 
     /// Frees what may be freed.
     fn free(&mut self, program: &Program, run: &mut Running) -> Result<(), NoMemory>
-        requires { IsRunOf program.now run.old.config }
-        ensures { IsRunOf program.now run.new.config }
+        requires of_run { IsRunOf program.now run.old.config }
+        requires come { HasCome program.now self.old.threads self.old.moves run.old.config }
+        ensures of_run { IsRunOf program.now run.new.config }
+        ensures come { OnOk result (HasCome program.now self.new.threads self.new.moves run.new.config) }
     {
         for _ in 0..MOST_FREES {
             if self.plan.retired().is_empty() {

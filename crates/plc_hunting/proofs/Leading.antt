@@ -11,7 +11,7 @@ use Rattle.plc_run.specs.Run.{Configuration, Moves, Races, more}
 use Rattle.plc_run.specs.Position.{Position, threads_of, IsOfRun, HasNone, IsForbidden}
 use Rattle.plc_run.proofs.Runs.{run_laws}
 use Rattle.plc_run.proofs.Threads.{run_fits}
-use Rattle.plc_hunting.specs.Racing.{LeadsToRace}
+use Rattle.plc_explore.specs.Racing.{LeadsToRace}
 
 -- a move leaves as many threads
 pub as_many : (flow : Flow) → FlowFits flow → (o : Observer) (p q : Position) (move : Move) → 0 < threads_of p → IsOfRun flow o p → Moves flow o (threads_of p) p.here move q.here → threads_of q ≡ threads_of p

@@ -19,7 +19,8 @@ use Rattle.plc_check.specs.Answered.{judged_of}
 use Rattle.plc_check.proofs.Unique.{one_file}
 use Rattle.plc_cli.specs.Headline.{IsProved}
 use Rattle.plc_cli.proofs.Racing.{never_races}
-use Rattle.plc_hunting.specs.Racing.{LeadsToRace, IsHuntedBy, IsHuntUnder, IsHuntedFreely, IsFreeHunt}
+use Rattle.plc_explore.specs.Racing.{LeadsToRace}
+use Rattle.plc_hunting.specs.Racing.{IsHuntedBy, IsHuntUnder, IsHuntedFreely, IsFreeHunt}
 use Rattle.plc_hunting.specs.Laws.{IsNothing, SafeFilesHaveNoHuntedRace}
 
 module _ (flow : Flow) (o : Observer) (safe : NeverRaces flow o) (threads : ℕ) (some : 0 < threads) where

@@ -1,10 +1,7 @@
 -- What is answered: a schedule that replays to a race, or a run that races.
-use Rattle.std.specs.Prelude.{◌≡◌, ◌⊎◌, ◌<◌, ℕ, false, List, [], ◌∷◌, Some}
-use Rattle.plc_auto.specs.declared.observer.Observer.{Observer}
-use Rattle.plc_flow.specs.declared.flow.Flow.{Flow}
+use Rattle.std.specs.Prelude.{◌≡◌, ◌⊎◌, ℕ, false, List, []}
 use Rattle.plc_moves.specs.declared.words.Move.{Move}
 use Rattle.plc_mem.specs.declared.cell.RaceKind.{RaceKind}
-use Rattle.plc_run.specs.Run.{Configuration, Moves, Races, first_configuration}
 use Rattle.plc_reclaim.specs.Meanings.{Meanings}
 use Rattle.plc_sched.specs.declared.schedule.Schedule.{Schedule}
 use Rattle.plc_sched.specs.Schedules.{IsScheduleOf}
@@ -14,6 +11,7 @@ use Rattle.plc_check.specs.declared.judged.Judged.{Judged}
 use Rattle.plc_check.specs.Answered.{judged_of}
 use Rattle.plc_cli.specs.Files.{IsAnsweredFile}
 use Rattle.plc_cli.specs.Statuses.{holds, fails}
+use Rattle.plc_explore.specs.Racing.{IsRacingRun}
 use Rattle.plc_hunting.specs.Texts.{run_text}
 
 -- ---- under a reclaimer
@@ -37,20 +35,6 @@ abbrev pub IsHuntUnder : Meanings → List ℕ → ℕ → List ℕ → Type 0
 IsHuntUnder reclaimer bytes status text = IsAnsweredFile (λ u. IsHuntedBy reclaimer (judged_of u)) bytes status text
 
 -- ---- where any free may come that the observer allows
-
--- moves lead from a configuration to a race: all but the last lead on, and the last is the race
-abbrev pub LeadsToRace : Flow → Observer → ℕ → Configuration → List Move → Type 0
-LeadsToRace flow o threads c [] = ⊥
-LeadsToRace flow o threads c (move ∷ moves) =
-    ((moves ≡ []) × (kind : RaceKind) × (k : ℕ) × Races flow threads c move kind k)
-    ⊎ ((d : Configuration) × Moves flow o threads c move d × LeadsToRace flow o threads d moves)
-
--- a run among so many threads begins, and its moves lead to a race
-pub record IsRacingRun (flow : Flow) (o : Observer) (threads : ℕ) (moves : List Move) : Type 0 where
-  pub some : 0 < threads
-  pub first : Configuration
-  pub begins : first_configuration flow threads ≡ Some first
-  pub races : LeadsToRace flow o threads first moves
 
 -- the text is that of a run which races, each of its frees with its address
 pub record TellsRacingRun (j : Judged) (text : List ℕ) : Type 0 where

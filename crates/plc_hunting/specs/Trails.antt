@@ -2,7 +2,7 @@
 use Rattle.std.specs.Prelude.{Option, Some, None}
 use Rattle.plc_explore.specs.declared.trail.Trail.{Trail}
 use Rattle.plc_check.specs.declared.judged.Judged.{Judged}
-use Rattle.plc_hunting.specs.Racing.{IsRacingRun}
+use Rattle.plc_explore.specs.Racing.{IsRacingRun}
 
 -- there is one, and it races
 abbrev pub TrailRaces : Judged → Option Trail → Type 0

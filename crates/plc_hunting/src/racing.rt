@@ -3,7 +3,8 @@ ghost use Rattle.std.specs.Prelude.{◌≡◌, ◌<◌, false, IfOk, IsTrue};
 ghost use Rattle.plc_flow.specs.WellFormed.{FlowFits};
 ghost use Rattle.plc_run.specs.Position.{IsOfRun, threads_of};
 ghost use Rattle.plc_hunting.specs.Ends.{is_race};
-ghost use Rattle.plc_hunting.specs.Racing.{IsRacingSchedule, LeadsToRace, IsRacingRun};
+ghost use Rattle.plc_explore.specs.Racing.{LeadsToRace, IsRacingRun};
+ghost use Rattle.plc_hunting.specs.Racing.{IsRacingSchedule};
 
 use plc_auto::Observer;
 use plc_base::NoMemory;

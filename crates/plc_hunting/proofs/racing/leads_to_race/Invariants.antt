@@ -1,6 +1,6 @@
 use Rattle.std.proofs.Common.{◌≡◌, false, drop}
 use Rattle.plc_run.specs.Position.{threads_of, IsOfRun}
-use Rattle.plc_hunting.specs.Racing.{LeadsToRace}
+use Rattle.plc_explore.specs.Racing.{LeadsToRace}
 use Rattle.plc_hunting.proofs.racing.leads_to_race.Given as goal
 
 abbrev pub invariant-loop-k : goal.invariant-loop-k

@@ -1,5 +1,9 @@
 use Rattle.plc_explore.specs.Running.{IsRunOf}
+use Rattle.plc_explore.specs.Walking.{HasCome}
 use Rattle.plc_explore.proofs.walker.Walker.walk.Given as goal
 
 abbrev pub invariant-loop : goal.invariant-loop
-invariant-loop g l = IsRunOf l.program l.run.config
+invariant-loop g l = record {
+  of_run : IsRunOf l.program l.run.config;
+  come : HasCome l.program l.self.threads l.self.moves l.run.config;
+}
