@@ -111,8 +111,14 @@ fn add_item(alloc: Global, context: &Context, parts: &mut Parts, form: &ItemForm
     match form {
         ItemForm::Invariant(clause) => add_invariant(alloc, context.scope, parts, clause),
         ItemForm::Over(name, clause) => add_over(alloc, context, parts, *name, clause),
-        ItemForm::At(name, others, clause) =>
-            add_at(alloc, context, parts, *name, others.as_slice(), clause),
+        ItemForm::At(name, others, clause) => add_at(
+            alloc,
+            context,
+            parts,
+            *name,
+            others.as_slice(),
+            clause,
+        ),
     }
 }
 

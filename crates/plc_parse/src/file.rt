@@ -174,7 +174,12 @@ fn operations_and_outline(
 fn unit(scope: Scope, front: Front, ops: Items<Op>, outline: Outline) -> Resolved<Unit>
     ensures { Gives (λ unit. unit) result (Ok (unit_from (front_of front) (ops, outline, scope))) }
 {
-    let Front { declared, observer, ghosts, init } = front;
+    let Front {
+        declared,
+        observer,
+        ghosts,
+        init,
+    } = front;
     let (fields, shared, functions) = declared;
     in_turn!(
         funcs = with_retire(functions), dropping scope, fields, shared, ghosts, init, ops, outline;

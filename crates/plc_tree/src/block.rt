@@ -11,9 +11,7 @@ ghost use Rattle.plc_tree.specs.Forms.{is_statement_word, begins_statement, begi
 ghost use Rattle.plc_tree.specs.Forms.{if_of, or_block_of, ors_of, choose_of, statement_of, statements_of, block_of};
 ghost use Rattle.plc_tree.specs.Views.{statement_tree, else_tree, ors_tree};
 
-use crate::statement::{
-    atomic_at, guard_at, label_at, named_statement_at, primitive_statement_at,
-};
+use crate::statement::{atomic_at, guard_at, label_at, named_statement_at, primitive_statement_at};
 use crate::tree::{Block, Stmt};
 use plc_lex::{Keyword, Symbol};
 use plc_syntax::{Front, Placed, Read, Rest, at_front, form, in_turn, symbol_at, syntax_fault};
