@@ -5,7 +5,8 @@
 // Sets are made one after another, each over the memory of the one before: the table of terms is emptied, and the
 // lists of a set that isn't needed any more take the clauses of the next.
 ghost use Rattle.std.specs.Prelude.{◌≡◌, ◌<◌, ◌^◌, [], length, slice_get, OnOk, IfOk};
-ghost use Rattle.plc_symbolic.specs.Numbering.{blank, listed, written, numbered};
+ghost use Rattle.plc_symbolic.specs.Numbering.{Drafted, blank, listed, written, numbered};
+ghost use Rattle.plc_symbolic.specs.Cuts.{CanCut, IsWrittenAfter};
 
 use crate::listing::Listing;
 use crate::symbolic::{SymbolicLit, SymbolicTerm};
@@ -56,6 +57,22 @@ impl Draft {
     {
         self.terms.clear();
         self.clauses.truncate(0);
+    }
+
+    /// Cuts back to an earlier draft, which had so many terms and clauses, after which clauses alone were written.
+    pub fn cut(&mut self, terms: usize, clauses: usize)
+        requires { CanCut terms clauses self.old }
+        ensures { (earlier : Drafted) → IsWrittenAfter earlier terms clauses self.old → self.new ≡ earlier }
+    {
+        self.terms.cut(terms);
+        self.clauses.truncate(clauses);
+    }
+
+    /// How many clauses there are.
+    pub fn clauses(&self) -> usize
+        ensures { result ≡ length self.now.clauses }
+    {
+        self.clauses.len()
     }
 
     /// Takes the memory of a set that isn't needed any more, for the clauses that are still to come.
