@@ -63,5 +63,6 @@ pub fn push_prefix(w: &Subject, out: &mut Draft) -> Result<Execution, NoMemory>
     push_beginning(w.flow, s, w.obligation, out)?;
     push_freshness(&w.flow.file, s, out)?;
     push_premises(w, out)?;
-    push_executed(w.alloc, s.acts.as_slice(), s.nodes.as_slice(), out)
+    let x = push_executed(w.alloc, s.acts.as_slice(), s.nodes.as_slice(), out)?;
+    Ok(x)
 }

@@ -85,7 +85,8 @@ fn write_prefix(w: &Subject, draft: &mut Draft) -> Result<Execution, NoMemory>
     let constants = constants_of(w.alloc, w.flow, w.outline, w.setting)?;
     list_constants(constants.as_slice(), draft)?;
     list_nodes(w.setting.nodes.as_slice(), draft)?;
-    push_prefix(w, draft)
+    let executed = push_prefix(w, draft)?;
+    Ok(executed)
 }
 
 /// Makes what the set of the obligation begins with, over an empty draft.

@@ -49,10 +49,10 @@ returns-clause-few c =
     few_acts w.flow.now w.outline.now w.setting.now w.obligation.now c.requires.fits c.requires.setting in
     let P : List Act → Type 0 = λ acts. length acts < 65536 in
     let same : length c.as_slice-3.result.now < 65536 = subst P (sym c.as_slice-3.ensures) few in
-    omega (arith, c.in_ok-push_executed.ensures.few)
+    omega (arith, c.in_ok-x.ensures.few)
 
 pub returns-clause-after : goal.returns-clause-after
-returns-clause-after c = c.in_ok-push_executed.ensures.after ∙ ap (after_all start) c.as_slice-3.ensures
+returns-clause-after c = c.in_ok-x.ensures.after ∙ ap (after_all start) c.as_slice-3.ensures
 
 pub returns-clause-clauses : goal.returns-clause-clauses
 unfolding prefix_of
@@ -64,7 +64,7 @@ returns-clause-clauses c =
     let valued : c.push_values.new.out ≡ written_all c.args.out.now (values_from 0 0 flow.file.ghosts s.nodes) =
     c.in_ok-push_values.ensures
     ∙ (λ i. written_all c.args.out.now (values_from 0 0 (c.as_slice.ensures i) (c.as_slice-2.ensures i))) in
-    c.in_ok-push_executed.ensures.clauses
+    c.in_ok-x.ensures.clauses
     ∙ (λ i. written_all c.push_premises.new.out (executed_clauses (c.as_slice-4.ensures i) start (c.as_slice-3.ensures i)))
     ∙ written-then _ c.push_premises.new.out (premises flow outline s o) _ c.in_ok-push_premises.ensures
     ∙ written-then _ c.push_freshness.new.out (freshness flow.file s) _ c.in_ok-push_freshness.ensures

@@ -1,0 +1,41 @@
+use Rattle.std.proofs.Common.{map, sym, ap, subst, ◌∙◌}
+use Rattle.plc_symbolic.specs.Drafts.{IsDraft}
+use Rattle.plc_symbolic.specs.Cuts.{IsWrittenAfter}
+use Rattle.plc_vocabulary.specs.Sorts.{sort_of}
+use Rattle.plc_encoding.specs.Items.{denied}
+use Rattle.plc_oblig.specs.GroundSets.{drafted}
+use Rattle.plc_oblig.proofs.Assembled.{assembled}
+use Rattle.plc_oblig.proofs.Sharing.{prefix_is_draft, concluded}
+use Rattle.plc_oblig.proofs.WellFormed.{made_well_formed}
+use Rattle.plc_oblig.proofs.grounding.conclude.Goals as goal
+
+pub cut-requires : goal.cut-requires
+cut-requires c =
+    let w = c.args.w.now in
+    (c.args.draft.now, record {
+      draft = subst IsDraft (sym c.requires.begun) (prefix_is_draft w.flow.now w.outline.now w.setting.now w.obligation.now);
+      later = denied w.flow.now w.outline.now w.setting.now c.args.executed.now w.obligation.now;
+      is = c.in_ok-set.ensures.kept ∙ c.in_ok-push_conclusion.ensures;
+      terms_then = c.len-terms.ensures;
+      clauses_then = c.clauses.ensures;
+    })
+
+pub returns : goal.returns
+returns c =
+    let w = c.args.w.now in
+    let flow = w.flow.now in
+    let outline = w.outline.now in
+    let o = w.obligation.now in
+    let s = w.setting.now in
+    let d = c.push_conclusion.new.out in
+    let setting = c.requires.ready.setting in
+    let written = concluded flow outline s o c.args.executed.now c.args.draft.now d c.requires.begun c.requires.executed c.in_ok-push_conclusion.ensures in
+    let set = assembled flow outline o s c.in_ok-sorts.sorts d c.in_ok-set.set setting written
+    (c.in_ok-sorts.ensures ∙ ap (λ acts. map (sort_of flow o acts) d.terms) c.as_slice-acts.ensures)
+    c.in_ok-set.ensures.set in
+    record {
+      kept = c.cut.ensures c.args.draft.now (cut-requires c).1;
+      well = made_well_formed flow outline o d c.in_ok-set.set c.requires.ready.fits (written ∙ ap (λ r. drafted flow outline r o) setting) set
+          c.in_ok-set.ensures.few_terms c.in_ok-set.ensures.few_clauses;
+      set = set;
+    }
