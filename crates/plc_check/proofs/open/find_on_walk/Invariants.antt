@@ -8,7 +8,7 @@ abbrev pub invariant-obligations : goal.invariant-obligations
 invariant-obligations l = record {
   so_far : FoundSoFar l.program.flow.now l.program.outline.now l.walk l.found;
   noted : NotedAreKept l.program.flow.now l.program.outline.now l.kept;
-  serves : Serves l.memory l.program.now;
+  serves : Serves l.memory l.program;
   few : length l.found ≤ l.most;
 }
 

@@ -6,7 +6,7 @@ use Rattle.plc_check.proofs.tree.trees_on_walk.Given as goal
 
 abbrev pub invariant-loop-obligation : goal.invariant-loop-obligation
 invariant-loop-obligation l = TreesSoFar l.program.flow.now l.program.outline.now l.walk l.trees × NotedHaveTrees l.program.flow.now l.program.outline.now l.trees l.noted
-    × Serves l.memory l.program.now
+    × Serves l.memory l.program
 
 abbrev pub decreases-loop-obligation : goal.decreases-loop-obligation
 decreases-loop-obligation l = length l.walk
