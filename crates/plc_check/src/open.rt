@@ -67,7 +67,7 @@ pub fn open_obligations(
 {
     let program = annotate(&judged.flow, &judged.unit_outline);
     let mut walk = Walk::new(alloc, &judged.flow, &judged.unit_outline)?;
-    let mut memory = Grounding::new(alloc, &program);
+    let mut memory = Grounding::new(alloc);
     let mut kept = AlikeObligations::new(alloc);
     let mut found = Items::new(alloc);
     let all = find_on_walk(

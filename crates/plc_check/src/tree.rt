@@ -147,7 +147,7 @@ pub(crate) fn trees_of(alloc: Global, judged: &Judged) -> Result<AllShown, NoMem
 {
     let program = annotate(&judged.flow, &judged.unit_outline);
     let mut walk = Walk::new(alloc, &judged.flow, &judged.unit_outline)?;
-    let mut memory = Grounding::new(alloc, &program);
+    let mut memory = Grounding::new(alloc);
     let mut noted = AlikeObligations::new(alloc);
     let trees = trees_on_walk(&mut memory, &program, &mut noted, &mut walk);
     drop(walk);

@@ -1,6 +1,6 @@
 -- Obligations that begin alike have in common what stands before the negated conclusion, if their conclusions bind as
 -- many names: of the number of its clause nothing else is in the setting, and nothing in the clauses.
-use Rattle.std.proofs.Common.{◌≡◌, ℕ, true, sym, ap, ◌∙◌, subst}
+use Rattle.std.proofs.Common.{◌≡◌, ℕ, length, true, sym, ap, ◌∙◌, subst}
 use Rattle.std.specs.Prelude.{◌==◌}
 use Rattle.std.proofs.lemmas.Bool.{eqb-true, and_parts, false≢true}
 use Rattle.plc_base.specs.declared.ids.PointId.{PointId}
@@ -9,6 +9,7 @@ use Rattle.plc_flow.specs.declared.flow.Flow.{Flow}
 use Rattle.plc_logic.specs.declared.clause.Outline.{Outline}
 use Rattle.plc_symbolic.specs.Numbering.{Drafted, blank, listed_all, written_all}
 use Rattle.plc_symbolic.specs.Drafts.{IsDraft, begun}
+use Rattle.plc_symbolic.specs.Cuts.{IsWrittenAfter}
 use Rattle.plc_symbolic.proofs.Drafts.{lists_all, writes_all}
 use Rattle.plc_vocabulary.specs.declared.obligations.Obligation.{Obligation}
 use Rattle.plc_vocabulary.specs.declared.obligations.Obligation.TheVariants.{Start, Enter, Own, Other, Claim}
@@ -31,11 +32,11 @@ module _ (flow : Flow) (outline : Outline) (n : ℕ) (kept : Prefix) where
   Begins o = IsPrefixOf flow outline (setting_for flow outline o n) o kept
 
   own_clause : (k : StepId) (c d : ℕ) → Begins (Own k c) → Begins (Own k d)
-  unfolding prefix_draft prefix_of
+  unfolding prefix_draft prefix_of Begins
   own_clause k c d h = record { draft = h.draft; executed = h.executed; few = h.few }
 
   other_clause : (k : StepId) (p : PointId) (c d : ℕ) → Begins (Other k p c) → Begins (Other k p d)
-  unfolding prefix_draft prefix_of
+  unfolding prefix_draft prefix_of Begins
   other_clause k p c d h = record { draft = h.draft; executed = h.executed; few = h.few }
 
   alike : (a b : Obligation) → begin_alike a b ≡ true → Begins a → Begins b
@@ -64,6 +65,7 @@ own_setting flow outline o s e = e ∙ ap (λ (r : Setting). setting_for flow ou
 -- what is kept serves an obligation that begins alike
 pub serves : (flow : Flow) (outline : Outline) (s : Setting) (o : Obligation) (kept : Prefix) → s ≡ setting_of flow outline o → IsKeptFor flow outline kept
     → kept.bound ≡ s.bound → begin_alike kept.obligation o ≡ true → IsPrefixOf flow outline s o kept
+unfolding Begins
 serves flow outline s o kept setting is bound same =
     subst (λ (r : Setting). IsPrefixOf flow outline r o kept) (sym (own_setting flow outline o s setting))
     (subst (λ n. IsPrefixOf flow outline (setting_for flow outline o n) o kept) bound (alike flow outline kept.bound kept kept.obligation o same is))
@@ -78,6 +80,18 @@ keeps flow outline s o kept setting is = subst (λ (r : Setting). IsPrefixOf flo
 pub prefix_is_draft : (flow : Flow) (outline : Outline) (s : Setting) (o : Obligation) → IsDraft (prefix_draft flow outline s o)
 unfolding prefix_draft
 prefix_is_draft flow outline s o = writes_all (prefix_of flow outline s o) _ (lists_all (listed_first flow outline s) blank begun)
+
+-- a draft after whose prefix a conclusion was written, so that it can be cut back
+pub written_after : (flow : Flow) (outline : Outline) (s : Setting) (o : Obligation) (x : Execution) (old new : Drafted) (terms clauses : ℕ)
+    → old ≡ prefix_draft flow outline s o → new ≡ written_all old (denied flow outline s x o) → terms ≡ length old.terms → clauses ≡ length old.clauses
+    → IsWrittenAfter old terms clauses new
+written_after flow outline s o x old new terms clauses prefix written terms_then clauses_then = record {
+  draft = subst IsDraft (sym prefix) (prefix_is_draft flow outline s o);
+  later = denied flow outline s x o;
+  is = written;
+  terms_then = terms_then;
+  clauses_then = clauses_then;
+}
 
 pub concluded : (flow : Flow) (outline : Outline) (s : Setting) (o : Obligation) (x : Execution) (old new : Drafted)
     → old ≡ prefix_draft flow outline s o → x ≡ after_all start s.acts → new ≡ written_all old (denied flow outline s x o)

@@ -1,6 +1,6 @@
 -- What the ground sets of obligations share. Of a step, and of a point of another thread, all that stands before the
 -- negated conclusion is settled but for how many names the conclusion binds.
-use Rattle.std.specs.Prelude.{◌≡◌, ◌<◌, ◌&&◌, ◌==◌, ℕ, Bool, false, length}
+use Rattle.std.specs.Prelude.{◌≡◌, ◌<◌, ◌&&◌, ◌==◌, ℕ, Bool, false, length, IfSome}
 use Rattle.plc_flow.specs.declared.flow.Flow.{Flow}
 use Rattle.plc_logic.specs.declared.clause.Outline.{Outline}
 use Rattle.plc_symbolic.specs.Numbering.{Drafted, blank, listed_all, written_all}
@@ -12,6 +12,7 @@ use Rattle.plc_encoding.specs.Execution.{start, after_all}
 use Rattle.plc_encoding.specs.Items.{prefix_of}
 use Rattle.plc_oblig.specs.declared.annotated.Annotated.{Annotated}
 use Rattle.plc_oblig.specs.declared.prefixes.Prefix.{Prefix}
+use Rattle.plc_oblig.specs.declared.prefixes.Prefixes.{Prefixes}
 use Rattle.plc_oblig.specs.GroundSets.{listed_first}
 
 -- the obligation is what step k leads to
@@ -59,3 +60,9 @@ IsKeptFor flow outline k = IsPrefixOf flow outline (setting_for flow outline k.o
 
 abbrev pub IsPrefix : Annotated → Prefix → Type 0
 IsPrefix p k = IsKeptFor p.flow.now p.outline.now k
+
+-- each of these is a prefix of sets of the program
+pub record ArePrefixes (p : Annotated) (ks : Prefixes) : Type 0 where
+  pub none : IfSome ks.none (IsPrefix p)
+  pub one : IfSome ks.one (IsPrefix p)
+  pub more : IfSome ks.more (IsPrefix p)

@@ -1,5 +1,5 @@
 -- What contracts say of a program, by the flow and the outline in it.
-use Rattle.std.specs.Prelude.{◌≡◌, List}
+use Rattle.std.specs.Prelude.{List}
 use Rattle.plc_ground.specs.declared.terms.GroundSet.{GroundSet}
 use Rattle.plc_vocabulary.specs.declared.obligations.Obligation.{Obligation}
 use Rattle.plc_vocabulary.specs.Fit.{Fits}
@@ -7,6 +7,7 @@ use Rattle.plc_oblig.specs.declared.annotated.Annotated.{Annotated}
 use Rattle.plc_oblig.specs.declared.grounding.Grounding.{Grounding}
 use Rattle.plc_oblig.specs.Obligations.{obligations}
 use Rattle.plc_oblig.specs.GroundSets.{ground_set}
+use Rattle.plc_oblig.specs.Prefixes.{ArePrefixes}
 
 -- its outline fits its flow
 abbrev pub ProgramFits : Annotated → Type 0
@@ -20,6 +21,6 @@ obligations_of p = obligations p.flow.now p.outline.now
 abbrev pub set_of : Annotated → Obligation → GroundSet
 set_of p o = ground_set p.flow.now p.outline.now o
 
--- a working memory is for sets of the program
+-- what a working memory keeps is of sets of the program
 abbrev pub Serves : Grounding → Annotated → Type 0
-Serves g p = g.prefixes ≡ p
+Serves g p = ArePrefixes p g.prefixes

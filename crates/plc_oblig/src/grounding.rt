@@ -8,6 +8,7 @@ ghost use Rattle.plc_symbolic.specs.Numbering.{blank, listed_all};
 ghost use Rattle.plc_vocabulary.specs.Fit.{Fits};
 ghost use Rattle.plc_encoding.specs.Execution.{start, after_all};
 ghost use Rattle.plc_oblig.specs.Programs.{ProgramFits, Serves, set_of};
+ghost use Rattle.plc_oblig.specs.declared.annotated.Annotated.{Annotated as AProgram};
 ghost use Rattle.plc_oblig.specs.Drafting.{CanDraft};
 ghost use Rattle.plc_oblig.specs.GroundSets.{constant_terms, node_terms, sorts_of, ground_set};
 ghost use Rattle.plc_oblig.specs.Prefixes.{prefix_draft, IsPrefixOf, IsKeptFor};
@@ -172,23 +173,23 @@ fn make(w: &Subject, kept: Option<Prefix>) -> Result<(Prefix, GroundSet), NoMemo
 
 /// Memory for ground sets of one program that are made one after another.
 #[derive(Drop)]
-pub struct Grounding<'a> {
+pub struct Grounding {
     /// Where the memory comes from, for what is made beside the sets too.
     pub alloc: Global,
     /// What the last sets began with.
-    pub prefixes: Prefixes<'a>,
+    pub prefixes: Prefixes,
     /// How many names the last conclusion binds.
     last: u16,
 }
 
-impl<'a> Grounding<'a> {
-    /// A working memory for sets of the program that holds nothing and takes no memory yet.
-    pub fn new(alloc: Global, program: &Annotated<'a>) -> Grounding<'a>
-        ensures { Serves result program.now }
+impl Grounding {
+    /// A working memory for sets of any one program, which holds nothing and takes no memory yet.
+    pub fn new(alloc: Global) -> Grounding
+        ensures { (program : AProgram) → Serves result program }
     {
         Grounding {
             alloc,
-            prefixes: Prefixes::new(program),
+            prefixes: Prefixes::new(),
             last: 0,
         }
     }
@@ -226,7 +227,7 @@ impl<'a> Grounding<'a> {
 
     /// Takes the memory of a set that isn't needed any more, for those that are still to come.
     pub fn reuse(&mut self, set: GroundSet)
-        ensures { self.new.prefixes ≡ self.old.prefixes }
+        ensures { (program : AProgram) → Serves self.old program → Serves self.new program }
     {
         let Some(mut prefix) = self.prefixes.take(self.last) else {
             return;
@@ -248,6 +249,5 @@ pub fn ground(
     ensures set { IfOk result (λ set. set ≡ ground_set flow.now outline.now o.now) }
     ensures well { IfOk result (λ set. IsWellFormed set) }
 {
-    let program = annotate(flow, outline);
-    Grounding::new(alloc, &program).ground(&program, o)
+    Grounding::new(alloc).ground(&annotate(flow, outline), o)
 }

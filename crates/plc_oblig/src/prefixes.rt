@@ -3,13 +3,12 @@
 // conclusions bind as many names. One draft of it is kept for each such number, since clauses with 0, 1 and 2 names
 // alternate; the next conclusion is written after it and cut off again.
 ghost use Rattle.std.specs.Prelude.{◌≡◌, IfSome};
-ghost use Rattle.plc_oblig.specs.Prefixes.{begin_alike, IsPrefix};
+ghost use Rattle.plc_oblig.specs.Prefixes.{begin_alike, IsPrefix, ArePrefixes};
+ghost use Rattle.plc_oblig.specs.declared.annotated.Annotated.{Annotated as AProgram};
 
-use crate::annotated::Annotated;
 use plc_encoding::Execution;
 use plc_symbolic::Draft;
 use plc_vocabulary::Obligation;
-use std::marker::Model;
 
 /// What the set of an obligation has before the negated conclusion.
 #[derive(Drop)]
@@ -40,35 +39,20 @@ pub fn begin_alike(a: &Obligation, b: &Obligation) -> bool
     }
 }
 
-/// Prefixes of one program, seen as that program: at most one for each number of bound names.
+/// What is kept: at most one prefix for each number of bound names.
 #[derive(Drop)]
-pub struct Prefixes<'a> {
-    program: Annotated<'a>,
+pub struct Prefixes {
     none: Option<Prefix>,
     one: Option<Prefix>,
     more: Option<Prefix>,
 }
 
-impl<'a> Model for Prefixes<'a> {
-    ghost use Rattle.std.specs.Prelude.{IfSome};
-    ghost use Rattle.plc_oblig.specs.declared.annotated.Annotated.{Annotated as AProgram};
-    ghost use Rattle.plc_oblig.specs.Prefixes.{IsPrefix};
-
-    ghost Value = { AProgram };
-
-    ghost view = { λ p. p.program };
-
-    ghost invariant = { λ p. IfSome p.none (IsPrefix p.program) × IfSome p.one (IsPrefix p.program)
-        × IfSome p.more (IsPrefix p.program) };
-}
-
-impl<'a> Prefixes<'a> {
+impl Prefixes {
     /// None yet. It takes no memory.
-    pub fn new(program: &Annotated<'a>) -> Prefixes<'a>
-        ensures { result ≡ program.now }
+    pub fn new() -> Prefixes
+        ensures { (program : AProgram) → ArePrefixes program result }
     {
         Prefixes {
-            program: *program,
             none: None,
             one: None,
             more: None,
@@ -77,8 +61,8 @@ impl<'a> Prefixes<'a> {
 
     /// Takes out the one for so many bound names.
     pub fn take(&mut self, bound: u16) -> Option<Prefix>
-        ensures program { self.new ≡ self.old }
-        ensures prefix { IfSome result (IsPrefix self.old) }
+        ensures left { (program : AProgram) → ArePrefixes program self.old → ArePrefixes program self.new }
+        ensures prefix { (program : AProgram) → ArePrefixes program self.old → IfSome result (IsPrefix program) }
     {
         match bound {
             0 => self.none.take(),
@@ -89,8 +73,8 @@ impl<'a> Prefixes<'a> {
 
     /// Keeps one in place of that for as many bound names.
     pub fn put(&mut self, prefix: Prefix)
-        requires { IsPrefix self.old prefix }
-        ensures { self.new ≡ self.old }
+        ensures { (program : AProgram) → ArePrefixes program self.old → IsPrefix program prefix
+            → ArePrefixes program self.new }
     {
         match prefix.bound {
             0 => self.none = Some(prefix),

@@ -14,7 +14,7 @@ use plc_ground::Tree;
 use plc_vocabulary::Obligation;
 use std::alloc::Global;
 
-impl<'a> Grounding<'a> {
+impl Grounding {
     /// The tree of a still obligation.
     fn tree_of_still(&mut self, program: &Annotated<'_>, o: &Obligation) -> Result<Tree, NoMemory>
         requires fits { ProgramFits program.now }
@@ -75,5 +75,5 @@ pub fn direct(
     ensures tree { IfOk result (λ tree. IfSome tree
         (λ t. IsDirectTree program.now.flow.now program.now.outline.now o.now t.nodes)) }
 {
-    Grounding::new(alloc, program).direct(program, o)
+    Grounding::new(alloc).direct(program, o)
 }

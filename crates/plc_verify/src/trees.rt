@@ -125,7 +125,7 @@ fn try_trees(alloc: Global, evidence: &Evidence) -> Result<(), VerifyFault>
     ensures { MatchResult result (λ _. Proves evidence.now) (λ fault. MayNotProve evidence.now fault) }
 {
     let mut walk = Walk::new(alloc, evidence.program.flow, evidence.program.outline)?;
-    let mut memory = Grounding::new(alloc, &evidence.program);
+    let mut memory = Grounding::new(alloc);
     let mut tried = AlikeObligations::new(alloc);
     try_each(&mut memory, &mut tried, &mut walk, evidence)
 }

@@ -1,24 +1,16 @@
-use Rattle.std.proofs.Common.{map, sym, ap, subst, ◌∙◌}
-use Rattle.plc_symbolic.specs.Drafts.{IsDraft}
-use Rattle.plc_symbolic.specs.Cuts.{IsWrittenAfter}
+use Rattle.std.proofs.Common.{map, ap, ◌∙◌}
 use Rattle.plc_vocabulary.specs.Sorts.{sort_of}
-use Rattle.plc_encoding.specs.Items.{denied}
 use Rattle.plc_oblig.specs.GroundSets.{drafted}
 use Rattle.plc_oblig.proofs.Assembled.{assembled}
-use Rattle.plc_oblig.proofs.Sharing.{prefix_is_draft, concluded}
+use Rattle.plc_oblig.proofs.Sharing.{written_after, concluded}
 use Rattle.plc_oblig.proofs.WellFormed.{made_well_formed}
 use Rattle.plc_oblig.proofs.grounding.conclude.Goals as goal
 
 pub cut-requires : goal.cut-requires
 cut-requires c =
     let w = c.args.w.now in
-    (c.args.draft.now, record {
-      draft = subst IsDraft (sym c.requires.begun) (prefix_is_draft w.flow.now w.outline.now w.setting.now w.obligation.now);
-      later = denied w.flow.now w.outline.now w.setting.now c.args.executed.now w.obligation.now;
-      is = c.in_ok-set.ensures.kept ∙ c.in_ok-push_conclusion.ensures;
-      terms_then = c.len-terms.ensures;
-      clauses_then = c.clauses.ensures;
-    })
+    (c.args.draft.now, written_after w.flow.now w.outline.now w.setting.now w.obligation.now c.args.executed.now c.args.draft.now _ _ _
+    c.requires.begun (c.in_ok-set.ensures.kept ∙ c.in_ok-push_conclusion.ensures) c.len-terms.ensures c.clauses-clauses.ensures)
 
 pub returns : goal.returns
 returns c =
@@ -34,7 +26,8 @@ returns c =
     (c.in_ok-sorts.ensures ∙ ap (λ acts. map (sort_of flow o acts) d.terms) c.as_slice-acts.ensures)
     c.in_ok-set.ensures.set in
     record {
-      kept = c.cut.ensures c.args.draft.now (cut-requires c).1;
+      kept = c.cut.ensures c.args.draft.now (written_after flow outline s o c.args.executed.now c.args.draft.now _ _ _
+          c.requires.begun (c.in_ok-set.ensures.kept ∙ c.in_ok-push_conclusion.ensures) c.len-terms.ensures c.clauses-clauses.ensures);
       well = made_well_formed flow outline o d c.in_ok-set.set c.requires.ready.fits (written ∙ ap (λ r. drafted flow outline r o) setting) set
           c.in_ok-set.ensures.few_terms c.in_ok-set.ensures.few_clauses;
       set = set;
