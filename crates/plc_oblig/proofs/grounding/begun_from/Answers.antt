@@ -1,5 +1,4 @@
 use Rattle.std.proofs.Common.{sym, ◌∙◌}
-use Rattle.std.proofs.lemmas.Bool.{eqb-true}
 use Rattle.plc_oblig.proofs.Sharing.{serves}
 use Rattle.plc_oblig.proofs.grounding.begun_from.Goals as goal
 
@@ -7,4 +6,4 @@ pub returns-then-begin_alike-clause-prefix : goal.returns-then-begin_alike-claus
 returns-then-begin_alike-clause-prefix c =
     let w = c.args.w.now in
     serves w.flow.now w.outline.now w.setting.now w.obligation.now c.args.kept c.requires.ready.setting c.requires.kept
-    (eqb-true c.args.kept.bound w.setting.now.bound c.if-kept-w.true) (sym c.begin_alike.ensures ∙ c.if-begin_alike.true)
+    c.if-kept-w.true (sym c.begin_alike.ensures ∙ c.if-begin_alike.true)
