@@ -101,7 +101,8 @@ fn tree_at(
     requires noted { NotedHaveTrees program.now.flow.now program.now.outline.now trees.now noted.old }
     requires serves { Serves memory.old program.now }
     ensures serves { Serves memory.new program.now }
-    ensures shown { IfOk result (AddsShown program.now.flow.now program.now.outline.now obligation trees.now noted.new) }
+    ensures shown { IfOk result
+        (AddsShown program.now.flow.now program.now.outline.now obligation trees.now noted.new) }
 {
     if let Some(at) = noted.find(program.flow, program.outline, &obligation) {
         return Ok(Shown::Tree(copy_of(memory.alloc, trees, at)?));

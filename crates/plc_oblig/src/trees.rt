@@ -22,7 +22,8 @@ impl Grounding {
         requires still { is_still program.now.flow.now program.now.outline.now o.now ≡ true }
         requires serves { Serves self.old program.now }
         ensures serves { Serves self.new program.now }
-        ensures tree { IfOk result (λ tree. IsDirectTree program.now.flow.now program.now.outline.now o.now tree.nodes) }
+        ensures tree { IfOk result
+            (λ tree. IsDirectTree program.now.flow.now program.now.outline.now o.now tree.nodes) }
     {
         let set = self.ground(program, o)?;
         let count = denied_size(program.flow, program.outline, o) as usize;
