@@ -17,7 +17,7 @@ use Rattle.plc_vocabulary.specs.declared.setting.Setting.{Setting}
 use Rattle.plc_vocabulary.specs.Setting.{setting_of}
 use Rattle.plc_encoding.specs.declared.execution.Execution.{Execution}
 use Rattle.plc_encoding.specs.Execution.{start, after_all}
-use Rattle.plc_encoding.specs.Items.{prefix_of, denied, clauses_of}
+use Rattle.plc_encoding.specs.Items.{prefix_of, denied}
 use Rattle.plc_encoding.proofs.Written.{written-append}
 use Rattle.plc_encoding.proofs.Prefixes.{prefix_first}
 use Rattle.plc_oblig.specs.declared.prefixes.Prefix.{Prefix}
