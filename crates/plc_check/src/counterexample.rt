@@ -5,7 +5,7 @@
 // Of one step all obligations are still or none is. So still ones needn't be noted, but untouched ones are: where alike
 // ones are looked for, the clauses of a point stand in their order.
 ghost use Rattle.std.specs.Prelude.{◌≡◌, IfOk, OnOk, IsTrue, Contains};
-ghost use Rattle.plc_oblig.specs.Programs.{ProgramFits, obligations_of};
+ghost use Rattle.plc_oblig.specs.Programs.{ProgramFits, Serves, obligations_of};
 ghost use Rattle.plc_oblig.specs.Outlines.{IsKept};
 ghost use Rattle.plc_check.specs.Counterexamples.{IsCounterexampleAt, NotedAreKept};
 
@@ -48,7 +48,9 @@ fn broken_at(
     obligation: Obligation,
 ) -> Result<Option<Counterexample>, NoMemory>
     requires fits { ProgramFits program.now }
-    ensures { IfOk result (IsCounterexampleAt program.now.flow.now program.now.outline.now obligation) }
+    requires serves { Serves memory.old program.now }
+    ensures serves { Serves memory.new program.now }
+    ensures found { IfOk result (IsCounterexampleAt program.now.flow.now program.now.outline.now obligation) }
 {
     let set = memory.ground(program, &obligation)?;
     match find_model(memory.alloc, &set) {
@@ -75,6 +77,8 @@ pub(crate) fn counterexample_at(
     requires fits { ProgramFits program.now }
     requires there { Contains (obligations_of program.now) obligation }
     requires kept { NotedAreKept program.now.flow.now program.now.outline.now kept.old }
+    requires serves { Serves memory.old program.now }
+    ensures serves { Serves memory.new program.now }
     ensures found { IfOk result (IsCounterexampleAt program.now.flow.now program.now.outline.now obligation) }
     ensures kept { OnOk result (NotedAreKept program.now.flow.now program.now.outline.now kept.new) }
 {

@@ -3,7 +3,7 @@
 // that the caller owns, so that the loop owns nothing large.
 ghost use Rattle.std.specs.Prelude.{◌≡◌, [], IfOk};
 ghost use Rattle.plc_vocabulary.specs.Fit.{Fits};
-ghost use Rattle.plc_oblig.specs.Programs.{ProgramFits, obligations_of};
+ghost use Rattle.plc_oblig.specs.Programs.{ProgramFits, Serves, obligations_of};
 ghost use Rattle.plc_check.specs.Counterexamples.{IsFirstCounterexample};
 ghost use Rattle.plc_check.specs.Open.{AreOpen};
 
@@ -36,6 +36,7 @@ fn find_on_walk(
     requires begun { walk.old ≡ obligations_of program.now }
     requires none_noted { kept.old ≡ [] }
     requires none_found { found.old ≡ [] }
+    requires serves { Serves memory.old program.now }
     ensures { IfOk result (λ all. AreOpen program.now.flow.now program.now.outline.now most
         (record { found = found.new; all = all })) }
 {

@@ -3,7 +3,7 @@
 // same memory.
 ghost use Rattle.std.specs.Prelude.{◌≡◌, ◌<◌, [], IfOk, Contains, Some, length, slice_get};
 ghost use Rattle.plc_vocabulary.specs.Fit.{Fits};
-ghost use Rattle.plc_oblig.specs.Programs.{ProgramFits, obligations_of};
+ghost use Rattle.plc_oblig.specs.Programs.{ProgramFits, Serves, obligations_of};
 ghost use Rattle.plc_check.specs.Counterexamples.{IsShown, NotedHaveTrees, AddsShown, AreShown};
 
 use crate::counterexample::Counterexample;
@@ -39,7 +39,9 @@ fn solve_at(
     obligation: Obligation,
 ) -> Result<Shown, NoMemory>
     requires fits { ProgramFits program.now }
-    ensures { IfOk result (IsShown program.now.flow.now program.now.outline.now obligation) }
+    requires serves { Serves memory.old program.now }
+    ensures serves { Serves memory.new program.now }
+    ensures shown { IfOk result (IsShown program.now.flow.now program.now.outline.now obligation) }
 {
     let set = memory.ground(program, &obligation)?;
     match refute(memory.alloc, &set) {
@@ -65,7 +67,9 @@ fn make_tree(
 ) -> Result<Shown, NoMemory>
     requires fits { ProgramFits program.now }
     requires there { Contains (obligations_of program.now) obligation }
-    ensures { IfOk result (IsShown program.now.flow.now program.now.outline.now obligation) }
+    requires serves { Serves memory.old program.now }
+    ensures serves { Serves memory.new program.now }
+    ensures shown { IfOk result (IsShown program.now.flow.now program.now.outline.now obligation) }
 {
     match memory.direct(program, &obligation)? {
         Some(tree) => Ok(Shown::Tree(tree)),
@@ -95,7 +99,10 @@ fn tree_at(
     requires fits { ProgramFits program.now }
     requires there { Contains (obligations_of program.now) obligation }
     requires noted { NotedHaveTrees program.now.flow.now program.now.outline.now trees.now noted.old }
-    ensures { IfOk result (AddsShown program.now.flow.now program.now.outline.now obligation trees.now noted.new) }
+    requires serves { Serves memory.old program.now }
+    ensures serves { Serves memory.new program.now }
+    ensures shown { IfOk result
+        (AddsShown program.now.flow.now program.now.outline.now obligation trees.now noted.new) }
 {
     if let Some(at) = noted.find(program.flow, program.outline, &obligation) {
         return Ok(Shown::Tree(copy_of(memory.alloc, trees, at)?));
@@ -120,6 +127,7 @@ fn trees_on_walk(
     requires fits { ProgramFits program.now }
     requires begun { walk.old ≡ obligations_of program.now }
     requires none_noted { noted.old ≡ [] }
+    requires serves { Serves memory.old program.now }
     ensures { IfOk result (AreShown program.now.flow.now program.now.outline.now) }
 {
     let mut trees = Items::new(memory.alloc);

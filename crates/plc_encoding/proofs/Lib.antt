@@ -1,3 +1,4 @@
 pub mod Written
 pub mod Tuples
 pub mod Fitting
+pub mod Prefixes

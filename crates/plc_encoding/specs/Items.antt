@@ -255,3 +255,13 @@ clauses_of flow outline s o =
     ++ (premises flow outline s o
     ++ (executed_clauses s.nodes start s.acts
     ++ denied flow outline s (after_all start s.acts) o)))))
+
+-- all of it before the negated conclusion
+unfoldable pub prefix_of : Flow → Outline → Setting → Obligation → Clauses
+prefix_of flow outline s o =
+    values_from 0 0 flow.file.ghosts s.nodes
+    ++ (mark_values s
+    ++ (beginning flow s o
+    ++ (freshness flow.file s
+    ++ (premises flow outline s o
+    ++ executed_clauses s.nodes start s.acts))))

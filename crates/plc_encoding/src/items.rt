@@ -1,12 +1,13 @@
-// All items of a ground set, in order.
-ghost use Rattle.std.specs.Prelude.{◌≡◌, OnOk};
+// The items of a ground set before the negated conclusion, in order. They are written apart from it, since obligations
+// of one step share them.
+ghost use Rattle.std.specs.Prelude.{◌≡◌, ◌<◌, length, OnOk, IfOk};
 ghost use Rattle.plc_symbolic.specs.Numbering.{written_all};
 ghost use Rattle.plc_vocabulary.specs.Fit.{Fits};
 ghost use Rattle.plc_vocabulary.specs.Setting.{setting_of};
-ghost use Rattle.plc_encoding.specs.Items.{premises, clauses_of};
+ghost use Rattle.plc_encoding.specs.Execution.{start, after_all};
+ghost use Rattle.plc_encoding.specs.Items.{premises, prefix_of};
 
 use crate::beginning::push_beginning;
-use crate::conclusion::push_conclusion;
 use crate::execution::{Execution, push_executed};
 use crate::freshness::push_freshness;
 use crate::instances::{Premises, push_invariants, push_point};
@@ -41,12 +42,15 @@ fn push_premises(w: &Subject, out: &mut Draft) -> Result<(), NoMemory>
     push_point(&owner, w.flow, w.outline, owner_point(w.obligation), out)
 }
 
-/// Writes the clauses of the obligation's ground set.
-pub fn push_items(w: &Subject, out: &mut Draft) -> Result<(), NoMemory>
+/// Writes the clauses of the obligation's ground set that stand before the negated conclusion. What was executed by
+/// then is what [`push_conclusion`] reads the conclusion after.
+pub fn push_prefix(w: &Subject, out: &mut Draft) -> Result<Execution, NoMemory>
     requires fits { Fits w.now.flow.now w.now.outline.now }
     requires setting { w.now.setting.now ≡ setting_of w.now.flow.now w.now.outline.now w.now.obligation.now }
-    ensures { OnOk result (out.new ≡ written_all out.old
-        (clauses_of w.now.flow.now w.now.outline.now w.now.setting.now w.now.obligation.now)) }
+    ensures clauses { OnOk result (out.new ≡ written_all out.old
+        (prefix_of w.now.flow.now w.now.outline.now w.now.setting.now w.now.obligation.now)) }
+    ensures after { IfOk result (λ x. x ≡ after_all start w.now.setting.now.acts) }
+    ensures few { IfOk result (λ x. length x.written < 65536) }
 {
     let s = w.setting;
     push_values(
@@ -60,5 +64,5 @@ pub fn push_items(w: &Subject, out: &mut Draft) -> Result<(), NoMemory>
     push_freshness(&w.flow.file, s, out)?;
     push_premises(w, out)?;
     let x = push_executed(w.alloc, s.acts.as_slice(), s.nodes.as_slice(), out)?;
-    push_conclusion(w, &x, out)
+    Ok(x)
 }

@@ -15,14 +15,16 @@ use Rattle.plc_vocabulary.specs.declared.obligations.Obligation.{Obligation}
 use Rattle.plc_vocabulary.specs.declared.setting.Setting.{Setting}
 use Rattle.plc_vocabulary.specs.Setting.{setting_of, constants_of}
 use Rattle.plc_vocabulary.specs.Sorts.{sort_of}
-use Rattle.plc_encoding.specs.Items.{clauses_of}
+use Rattle.plc_encoding.specs.Items.{prefix_of}
 use Rattle.plc_oblig.specs.GroundSets.{drafted, ground_set}
+use Rattle.plc_oblig.specs.Prefixes.{prefix_draft}
 
-pub draft_is : (flow : Flow) (outline : Outline) (o : Obligation) (s : Setting) (cs : List Symbol) (a b c : Drafted)
+pub prefix_is : (flow : Flow) (outline : Outline) (o : Obligation) (s : Setting) (cs : List Symbol) (a b c : Drafted)
     → cs ≡ constants_of flow outline s → a ≡ listed_all blank (map Constant cs) → b ≡ listed_all a (map term_of s.nodes)
-    → c ≡ written_all b (clauses_of flow outline s o) → c ≡ drafted flow outline s o
-draft_is flow outline o s cs a b c constants first second written =
-    written ∙ ap (λ d. written_all d (clauses_of flow outline s o))
+    → c ≡ written_all b (prefix_of flow outline s o) → c ≡ prefix_draft flow outline s o
+unfolding prefix_draft
+prefix_is flow outline o s cs a b c constants first second written =
+    written ∙ ap (λ d. written_all d (prefix_of flow outline s o))
     (second ∙ ap (λ d. listed_all d (map term_of s.nodes)) (first ∙ ap (λ ks. listed_all blank (map Constant ks)) constants)
     ∙ sym (listed_all-append (map Constant (constants_of flow outline s)) (map term_of s.nodes) blank))
 

@@ -18,3 +18,4 @@ mod Bounds
 mod Assembled
 mod WellFormed
 pub mod OneSet
+mod Sharing

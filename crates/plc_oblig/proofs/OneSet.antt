@@ -103,11 +103,17 @@ same_set flow outline k c p q locals clauses =
     set_in : Setting → Drafted → Obligation → GroundSet
     set_in s d o = numbered (map (sort_of flow o s.acts) d.terms) d
 
-step_is : (k m : StepId) → k.0 ≡ m.0 → k ≡ m
+pub step_is : (k m : StepId) → k.0 ≡ m.0 → k ≡ m
 step_is k m same = ap numbered_step same
   where
     numbered_step : ℕ → StepId
     numbered_step n = record { 0 = n }
+
+pub point_is : (p q : PointId) → p.0 ≡ q.0 → p ≡ q
+point_is p q same = ap numbered_point same
+  where
+    numbered_point : ℕ → PointId
+    numbered_point n = record { 0 = n }
 
 same_other : (flow : Flow) (outline : Outline) (k m : StepId) (p q : PointId) (c d : ℕ) → k.0 ≡ m.0 → c ≡ d
     → are_points_alike flow outline p.0 q.0 ≡ true

@@ -12,3 +12,4 @@ pub mod Alike
 pub mod Size
 pub mod Runs
 pub mod Drafting
+pub mod Prefixes

@@ -12,6 +12,7 @@ mod annotated;
 mod counting;
 mod excess;
 mod grounding;
+mod prefixes;
 mod refuted;
 mod runs;
 mod size;

@@ -1,6 +1,6 @@
 // The tree of an obligation, where it is still.
 ghost use Rattle.std.specs.Prelude.{◌≡◌, true, is_some, IfOk, IfSome, Contains};
-ghost use Rattle.plc_oblig.specs.Programs.{ProgramFits, obligations_of};
+ghost use Rattle.plc_oblig.specs.Programs.{ProgramFits, Serves, obligations_of};
 ghost use Rattle.plc_oblig.specs.Still.{is_still};
 ghost use Rattle.plc_oblig.specs.Direct.{IsDirectTree};
 
@@ -20,7 +20,10 @@ impl Grounding {
         requires fits { ProgramFits program.now }
         requires there { Contains (obligations_of program.now) o.now }
         requires still { is_still program.now.flow.now program.now.outline.now o.now ≡ true }
-        ensures { IfOk result (λ tree. IsDirectTree program.now.flow.now program.now.outline.now o.now tree.nodes) }
+        requires serves { Serves self.old program.now }
+        ensures serves { Serves self.new program.now }
+        ensures tree { IfOk result
+            (λ tree. IsDirectTree program.now.flow.now program.now.outline.now o.now tree.nodes) }
     {
         let set = self.ground(program, o)?;
         let count = denied_size(program.flow, program.outline, o) as usize;
@@ -42,6 +45,8 @@ impl Grounding {
     ) -> Result<Option<Tree>, NoMemory>
         requires there { Contains (obligations_of program.now) o.now }
         requires fits { ProgramFits program.now }
+        requires serves { Serves self.old program.now }
+        ensures serves { Serves self.new program.now }
         ensures still { IfOk result (λ tree. is_some tree
             ≡ is_still program.now.flow.now program.now.outline.now o.now) }
         ensures tree { IfOk result (λ tree. IfSome tree

@@ -3,3 +3,4 @@ pub mod Places
 pub mod Noting
 pub mod Reading
 pub mod Drafts
+pub mod Cutting

@@ -107,7 +107,7 @@ grows_twice ts us vs g h = record {
   longer = omega (arith, g.longer, h.longer);
 }
 
-grows_push : (ts : List SymbolicTerm) (u : SymbolicTerm) → Grows ts (ts ++ u ∷ [])
+pub grows_push : (ts : List SymbolicTerm) (u : SymbolicTerm) → Grows ts (ts ++ u ∷ [])
 grows_push ts u = record {
   reads = read_push ts u;
   places = place_push ts u;

@@ -72,7 +72,7 @@ mapped_more f xs ys same i d small done now is pushed =
     ∙ sym (map_push f (take i xs) (get_or xs i d)) ∙ sym (ap (map f) (take_more xs i d (subst (λ zs. i < length zs) same small)))
 
 -- two functions undo each other on a list
-map_back : {A B : Type 0} (f : B → A) (g : A → B) (P : A → Type 0) → ((x : A) → P x → f (g x) ≡ x) → (xs : List A) → All P xs → map f (map g xs) ≡ xs
+pub map_back : {A B : Type 0} (f : B → A) (g : A → B) (P : A → Type 0) → ((x : A) → P x → f (g x) ≡ x) → (xs : List A) → All P xs → map f (map g xs) ≡ xs
 map_back f g P back xs h = map_map f g xs ∙ map_agree (λ x. f (g x)) (λ x. x) P back xs h ∙ map_same xs
 
 pub inside_all_grown : (ts us : List SymbolicTerm) (cs : List (List Lit)) → Grows ts us → All (All (IsInside ts)) cs → All (All (IsInside us)) cs

@@ -9,3 +9,4 @@ pub mod Drafts
 pub mod Growth
 -- what an impl of the code cites
 pub mod Equality
+pub mod Cuts

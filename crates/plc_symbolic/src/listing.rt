@@ -3,7 +3,7 @@
 //
 // Clauses speak of few terms, again and again, so that most are found where they were found last, without a look
 // at the table of hashes.
-ghost use Rattle.std.specs.Prelude.{◌≡◌, ◌<◌, ◌^◌, [], length, slice_get, map, OnOk, IfOk, IfSome};
+ghost use Rattle.std.specs.Prelude.{◌≡◌, ◌<◌, ◌^◌, [], length, slice_get, take, map, OnOk, IfOk, IfSome};
 ghost use Rattle.plc_symbolic.specs.Terms.{term_of};
 ghost use Rattle.plc_symbolic.specs.Growth.{HasArgument, IsAppliedTo, Grows};
 ghost use Rattle.plc_symbolic.specs.Numbering.{put, note, note_literal, note_clause};
@@ -64,6 +64,13 @@ impl Listing {
         ensures { self.new ≡ [] }
     {
         self.terms.clear();
+    }
+
+    /// The first terms, so many.
+    pub fn cut(&mut self, len: usize)
+        ensures { self.new ≡ take len self.old }
+    {
+        self.terms.truncate(len);
     }
 
     /// How many terms there are.

@@ -3,7 +3,7 @@
 // mostly one tree too: then the tree is tried once.
 ghost use Rattle.std.specs.Prelude.{◌≡◌, ◌<◌, IsTrue, IfOk, OnOk, MatchResult, length};
 ghost use Rattle.plc_vocabulary.specs.Fit.{Fits};
-ghost use Rattle.plc_oblig.specs.Programs.{ProgramFits, obligations_of};
+ghost use Rattle.plc_oblig.specs.Programs.{ProgramFits, Serves, obligations_of};
 ghost use Rattle.plc_verify.specs.Trees.{TreesClose};
 ghost use Rattle.plc_verify.specs.Tests.{MayNotClose};
 ghost use Rattle.plc_verify.specs.Evidence.{ClosesSetOf, IsVerdictOn, IsVerdictOf};
@@ -52,8 +52,10 @@ fn first_bad_node(
     o: &Obligation,
     tree: &Tree,
 ) -> Result<Option<u64>, NoMemory>
-    requires { ProgramFits evidence.now.program }
-    ensures { IfOk result (IsVerdictOn evidence.now o.now tree.now.nodes) }
+    requires fits { ProgramFits evidence.now.program }
+    requires serves { Serves memory.old evidence.now.program }
+    ensures serves { Serves memory.new evidence.now.program }
+    ensures bad { IfOk result (IsVerdictOn evidence.now o.now tree.now.nodes) }
 {
     let set = memory.ground(&evidence.program, o)?;
     let bad = closes(memory.alloc, &set, tree)?;
@@ -73,6 +75,8 @@ fn try_tree(
     requires fits { ProgramFits evidence.now.program }
     requires there { at < length evidence.now.trees.now }
     requires tried { TriedClose evidence.now tried.old }
+    requires serves { Serves memory.old evidence.now.program }
+    ensures serves { Serves memory.new evidence.now.program }
     ensures bad { IfOk result (IsVerdictOf evidence.now at o.now) }
     ensures tried { OnOk result (TriedClose evidence.now tried.new) }
 {
@@ -97,6 +101,7 @@ fn try_each(
     requires complete { IsComplete evidence.now }
     requires tried { TriedClose evidence.now tried.old }
     requires first { walk.old ≡ obligations_of evidence.now.program }
+    requires serves { Serves memory.old evidence.now.program }
     ensures { MatchResult result (λ _. Proves evidence.now) (λ fault. MayNotProve evidence.now fault) }
 {
     for i in 0..evidence.trees.len() {

@@ -6,7 +6,7 @@ use Rattle.plc_check.proofs.counterexample.counterexample_at.Goals as goal
 
 pub returns-in_ok-note-in-None-clause-kept : goal.returns-in_ok-note-in-None-clause-kept
 returns-in_ok-note-in-None-clause-kept c =
-    let kept = subst (IsCounterexampleAt c.args.program.now.flow.now c.args.program.now.outline.now c.args.obligation) c.in-None.is c.in_ok-found.ensures in
+    let kept = subst (IsCounterexampleAt c.args.program.now.flow.now c.args.program.now.outline.now c.args.obligation) c.in-None.is c.in_ok-found.ensures.found in
     kept_noted c.args.program.now.flow.now c.args.program.now.outline.now c.args.kept.now c.note-in-None.new.self c.args.obligation 0 c.requires.kept kept c.in_ok-note-in-None.ensures
 
 pub returns-then-untouched-clause-found : goal.returns-then-untouched-clause-found

@@ -15,6 +15,7 @@ obligations-init c =
     record {
       so_far = none_found flow outline c.args.walk.now c.args.found.now c.requires.begun c.requires.none_found;
       noted = subst (NotedAreKept flow outline) (sym c.requires.none_noted) (none_kept flow outline);
+      serves = c.requires.serves;
       few = omega arith;
     }
 
@@ -32,6 +33,7 @@ obligations-preserved-in_default-broken c =
       so_far = one_kept flow outline c.obligations.walk c.next.new.self c.obligations.found c.in-Some.obligation c.obligations.invariant.so_far
           c.in-Some.ensures (subst (IsCounterexampleAt flow outline c.in-Some.obligation) c.in_default-broken.is c.in_ok-broken.ensures.found);
       noted = c.in_ok-broken.ensures.kept;
+      serves = c.in_ok-broken.ensures.serves;
       few = c.obligations.invariant.few;
     }
 
@@ -46,5 +48,6 @@ obligations-preserved c =
           (one_broken flow outline c.obligations.walk c.next.new.self c.obligations.found c.in-Some.obligation broken c.obligations.invariant.so_far
           c.in-Some.ensures (subst (IsCounterexampleAt flow outline c.in-Some.obligation) c.in-Some-broken.is c.in_ok-broken.ensures.found));
       noted = c.in_ok-broken.ensures.kept;
+      serves = c.in_ok-broken.ensures.serves;
       few = omega arith;
     }

@@ -3,8 +3,8 @@ use Rattle.plc_oblig.specs.GroundSets.{ground_set}
 use Rattle.plc_check.proofs.Readable.{nodes_fit}
 use Rattle.plc_check.proofs.tree.make_tree.Goals as goal
 
-pub returns-in-Some : goal.returns-in-Some
-returns-in-Some c =
+pub returns-in-Some-clause-shown : goal.returns-in-Some-clause-shown
+returns-in-Some-clause-shown c =
     let set = ground_set c.args.program.now.flow.now c.args.program.now.outline.now c.args.obligation in
     let tree = rw c.in-Some.is at c.in_ok-tree.ensures.tree in
     record {
@@ -13,5 +13,5 @@ returns-in-Some c =
       fits = nodes_fit set tree.well ([] ∷ []) c.in-Some.tree.nodes tree.closes;
     }
 
-pub returns-in-None : goal.returns-in-None
-returns-in-None c = search rules
+pub returns-in-None-clause-shown : goal.returns-in-None-clause-shown
+returns-in-None-clause-shown c = search rules

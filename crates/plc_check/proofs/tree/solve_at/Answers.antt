@@ -5,8 +5,8 @@ use Rattle.plc_solve.specs.Answers.{CarriesTree}
 use Rattle.plc_check.proofs.Readable.{nodes_fit}
 use Rattle.plc_check.proofs.tree.solve_at.Goals as goal
 
-pub returns-in-Ok-Closed : goal.returns-in-Ok-Closed
-returns-in-Ok-Closed c =
+pub returns-in-Ok-Closed-clause-shown : goal.returns-in-Ok-Closed-clause-shown
+returns-in-Ok-Closed-clause-shown c =
     let set = c.in_ok-set.set in
     let nodes = c.in-Ok-Closed.tree.nodes in
     let carried = subst (CarriesTree set) c.in-Ok-Closed.field-0-is c.in-Ok-Closed.ensures.closed in

@@ -16,23 +16,25 @@ loop-obligation-init c =
     let none = subst (λ (os : List Obligation). TreesSoFar flow outline os []) (sym c.requires.begun) (no_trees flow outline) in (
       subst (TreesSoFar flow outline c.args.walk.now) (sym c.new-trees.ensures) none,
       subst (NotedHaveTrees flow outline c.new-trees.result) (sym c.requires.none_noted) (none_have flow outline c.new-trees.result),
+      c.requires.serves,
     )
 
 pub loop-obligation-preserved : goal.loop-obligation-preserved
 loop-obligation-preserved c =
     let flow = c.args.program.now.flow.now in
     let outline = c.args.program.now.outline.now in
-    let added = subst (AddsShown flow outline c.in-Some.obligation c.as_slice.result.now c.tree_at.new.noted) c.in-Tree.is c.in_ok-shown.ensures in
+    let added = subst (AddsShown flow outline c.in-Some.obligation c.as_slice.result.now c.tree_at.new.noted) c.in-Tree.is c.in_ok-shown.ensures.shown in
     let have = subst (λ (ts : List Tree). NotedHaveTrees flow outline (ts ++ c.in-Tree.tree ∷ []) c.tree_at.new.noted) c.as_slice.ensures added.1 in (
       subst (TreesSoFar flow outline c.next.new.self) (sym c.in_ok-push-in-Tree.ensures.ok)
           (one_more flow outline c.loop-obligation.walk c.next.new.self c.loop-obligation.trees
           c.in-Some.obligation c.in-Tree.tree c.loop-obligation.invariant.0 c.in-Some.ensures added.0),
       subst (λ (ts : List Tree). NotedHaveTrees flow outline ts c.tree_at.new.noted) (sym c.in_ok-push-in-Tree.ensures.ok) have,
+      c.in_ok-shown.ensures.serves,
     )
 
 pub returns-in-Broken : goal.returns-in-Broken
 returns-in-Broken c =
-    let broken = subst (AddsShown c.args.program.now.flow.now c.args.program.now.outline.now c.in-Some.obligation c.as_slice.result.now c.tree_at.new.noted) c.in-Broken.is c.in_ok-shown.ensures in
+    let broken = subst (AddsShown c.args.program.now.flow.now c.args.program.now.outline.now c.in-Some.obligation c.as_slice.result.now c.tree_at.new.noted) c.in-Broken.is c.in_ok-shown.ensures.shown in
     least_broken c.args.program.now.flow.now c.args.program.now.outline.now c.loop-obligation.walk c.next.new.self c.in-Some.obligation c.in-Broken.found
     (kept_so_far c.args.program.now.flow.now c.args.program.now.outline.now c.loop-obligation.walk c.loop-obligation.trees c.loop-obligation.invariant.0)
     c.in-Some.ensures broken

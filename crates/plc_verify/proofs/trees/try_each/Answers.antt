@@ -17,7 +17,7 @@ pub loop-i-preserved : goal.loop-i-preserved
 loop-i-preserved c =
     let e = c.args.evidence.now in
     let closes = rw c.in_default-bad.is at c.in_ok-bad.ensures.bad in
-    (closed_here e.program.flow.now e.program.outline.now e.trees.now c.loop-i.i c.loop-i.walk c.next.new.self c.in-Some.o c.loop-i.invariant.0 c.in-Some.ensures c.loop-i-test.true closes, c.in_ok-bad.ensures.tried)
+    (closed_here e.program.flow.now e.program.outline.now e.trees.now c.loop-i.i c.loop-i.walk c.next.new.self c.in-Some.o c.loop-i.invariant.0 c.in-Some.ensures c.loop-i-test.true closes, c.in_ok-bad.ensures.tried, c.in_ok-bad.ensures.serves)
 
 pub returns : goal.returns
 returns c =

@@ -20,4 +20,4 @@ returns-in_ok-note-clause-tried c =
     let is = slice_get-get_or e.trees.now c.args.at c.index-evidence-at.result c.requires.there in
     let none : is_some c.in_ok-bad.bad ≡ false = (let e = c.is_none.ensures in let h = c.if-is_none.true in cc) in
     more_tried e.program.flow.now e.program.outline.now e.trees.now c.args.tried.now c.args.o.now c.args.at c.requires.tried c.note.new.self
-    t is (closes_if_none set t.nodes c.in_ok-bad.bad c.in_ok-bad.ensures none) c.in_ok-note.ensures
+    t is (closes_if_none set t.nodes c.in_ok-bad.bad c.in_ok-bad.ensures.bad none) c.in_ok-note.ensures

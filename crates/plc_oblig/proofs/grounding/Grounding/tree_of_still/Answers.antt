@@ -22,8 +22,8 @@ unreachable-requires c =
     (subst (λ g. IsRefutedByLast g c.denied_size-count.result found.0) (sym c.in_ok-set.ensures.set)
     (subst (λ n. IsRefutedByLast (ground_set flow outline o) n found.0) (sym counted) found.1.0))
 
-pub returns : goal.returns
-returns c =
+pub returns-clause-tree : goal.returns-clause-tree
+returns-clause-tree c =
     let flow = c.args.program.now.flow.now in
     let outline = c.args.program.now.outline.now in
     let o = c.args.o.now in

@@ -15,4 +15,4 @@ returns c =
     ap (read_draft c.note_clause.new.self) c.in_ok-push.ensures.ok
     ∙ draft_written c.self.inside.terms c.note_clause.new.self c.self.inside.clauses c.args.clause.now c.note_clause.new.lits c.in_ok-note_clause.ensures.listed
     c.in_ok-note_clause.ensures.lits c.self.invariant
-    ∙ ap (λ d. written d c.args.clause.now) (c.self.view_is ∙ c.empty_list-lits.ensures.kept)
+    ∙ ap (λ d. written d c.args.clause.now) c.self.view_is
