@@ -2,8 +2,9 @@
 // of one thread between two moments at which it stands at the same point, or from one moment on; so a whole operation,
 // a turn of a loop, and all that a thread does are among them. The longest are tried first. Each attempt is followed
 // from the beginning (delta debugging, Zeller 1999), and what was made on the way, up to the race, is what is left: the
-// run that is answered was made itself, and nothing rests on what was left out.
-ghost use Rattle.std.specs.Prelude.{◌≡◌, ◌≤◌, ◌+◌, IfOk, OnOk, length};
+// run that is answered was made itself, and nothing rests on what was left out. At last the threads are numbered in the
+// order in which they move first, and that is followed, too.
+ghost use Rattle.std.specs.Prelude.{◌≡◌, ◌⊎◌, ◌≤◌, ◌+◌, IfOk, OnOk, length};
 ghost use Rattle.plc_explore.specs.Racing.{RacesAmong};
 ghost use Rattle.plc_explore.specs.Running.{MayRun};
 ghost use Rattle.plc_explore.specs.Shortening.{IsLeft};
@@ -77,14 +78,7 @@ fn tries_without(
     ensures { IfOk result (IsLeft program.now (length run.now.moves)) }
 {
     let moves = without(alloc, run.moves.as_slice(), cut)?;
-    match follow(alloc, program, frees, run.threads, moves.as_slice()) {
-        Ok(Some(left)) => match in_order(alloc, program, frees, left) {
-            Ok(left) => Ok(Some(left)),
-            Err(fault) => Err(fault),
-        },
-        Ok(None) => Ok(None),
-        Err(fault) => Err(fault),
-    }
+    follow(alloc, program, frees, run.threads, moves.as_slice())
 }
 
 /// The moves of a thread, each with where the thread stood before it.
@@ -301,19 +295,6 @@ fn numbered(alloc: Global, moves: &[Move]) -> Result<Trail, NoMemory>
     })
 }
 
-/// Whether the threads of a run are numbered in the order in which they move first, and each of them moves.
-fn is_in_order(alloc: Global, run: &Followed) -> Result<bool, NoMemory> {
-    let mut met = Vec::new(alloc);
-    for m in run.moves.as_slice() {
-        if let Some(t) = mover(m) {
-            if number_among(&mut met, t)? != t {
-                return Ok(false);
-            }
-        }
-    }
-    Ok(met.len() as u64 == u64::from(run.threads))
-}
-
 /// A run with threads numbered in the order in which they move first, if it races then too; else as it is.
 fn in_order(
     alloc: Global,
@@ -326,9 +307,6 @@ fn in_order(
     ensures races { IfOk result (λ short. RacesAmong program.now short.threads short.moves) }
     ensures no_longer { IfOk result (λ short. length short.moves ≤ length run.moves) }
 {
-    if is_in_order(alloc, &run)? {
-        return Ok(run);
-    }
     let other = numbered(alloc, run.moves.as_slice())?;
     match follow(alloc, program, frees, other.threads, other.moves.as_slice()) {
         Ok(Some(left)) => Ok(left),
@@ -360,11 +338,9 @@ fn shorten_followed(
     ensures races { IfOk result (λ short. RacesAmong program.now short.threads short.moves) }
     ensures no_longer { IfOk result (λ short. length short.moves ≤ length run.moves) }
 {
+    let run = leave_all(alloc, program, frees, run)?;
     let run = in_order(alloc, program, frees, run)?;
-    match leave_all(alloc, program, frees, run) {
-        Ok(run) => Ok(trail_of(run)),
-        Err(fault) => Err(fault),
-    }
+    Ok(trail_of(run))
 }
 
 /// Makes a run that races short. It is followed first: where that doesn't come to a race, since a reclaimer then frees
@@ -379,6 +355,7 @@ pub fn shorten(
     requires { MayRun program.now }
     ensures races { IfOk result (λ short. RacesAmong program.now trail.threads trail.moves
         → RacesAmong program.now short.threads short.moves) }
+    ensures or_given { IfOk result (λ short. (RacesAmong program.now short.threads short.moves) ⊎ (short ≡ trail)) }
     ensures no_longer { IfOk result (λ short. length short.moves ≤ length trail.moves) }
 {
     match follow(alloc, program, frees, trail.threads, trail.moves.as_slice()) {
