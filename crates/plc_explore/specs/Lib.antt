@@ -5,3 +5,5 @@ pub mod Racing
 -- words of private functions alone
 pub mod Walking
 pub mod Drawing
+pub mod Following
+pub mod Shortening

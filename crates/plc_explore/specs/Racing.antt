@@ -22,7 +22,10 @@ pub record IsRacingRun (flow : Flow) (o : Observer) (threads : ℕ) (moves : Lis
   pub begins : first_configuration flow threads ≡ Some first
   pub races : LeadsToRace flow o threads first moves
 
+-- moves among so many threads are a run of the program that races
+abbrev pub RacesAmong : Program → ℕ → List Move → Type 0
+RacesAmong program threads moves = IsRacingRun program.flow.now program.observer.now threads moves
+
 -- a run that was found, if one was, is one of the program that races
 abbrev pub FindsRaces : Program → Option Trail → Type 0
-FindsRaces program found =
-    IfSome found (λ run. IsRacingRun program.flow.now program.observer.now run.threads run.moves)
+FindsRaces program found = IfSome found (λ run. RacesAmong program run.threads run.moves)

@@ -1,7 +1,7 @@
 // Runs are drawn one after the other, until one races or as many moves were made as there may be.
 ghost use Rattle.std.specs.Prelude.{◌≡◌, ◌<◌, [], IfOk, IfSome, IsTrue};
 ghost use Rattle.plc_run.specs.Position.{threads_of};
-ghost use Rattle.plc_explore.specs.Racing.{FindsRaces, IsRacingRun};
+ghost use Rattle.plc_explore.specs.Racing.{FindsRaces, RacesAmong};
 ghost use Rattle.plc_explore.specs.Drawing.{RacesWhereSaid, kept_after};
 ghost use Rattle.plc_explore.specs.Running.{IsIndexed, IsRunOf};
 ghost use Rattle.plc_explore.specs.Walking.{IsWalked};
@@ -36,8 +36,8 @@ fn walk(walker: &mut Walker, program: &Program, mut run: Running) -> Result<Opti
     requires indexed { IsIndexed program.now }
     requires of_run { IsRunOf program.now run.config }
     requires walked { IsWalked program.now walker.old.moves run.config }
-    ensures { IfOk result (λ races. IfSome races (λ races. IsTrue races
-        → IsRacingRun program.now.flow.now program.now.observer.now (threads_of run.entry.config) walker.new.moves)) }
+    ensures raced { IfOk result (λ walked. IfSome walked (λ ends_in_race. IsTrue ends_in_race
+        → RacesAmong program.now (threads_of run.entry.config) walker.new.moves)) }
 {
     let races = walker.walk(program, &mut run);
     drop(run);
@@ -58,8 +58,8 @@ fn begin_and_walk(
     requires indexed { IsIndexed program.now }
     requires some { 0 < threads }
     requires fresh { walker.old.moves ≡ [] }
-    ensures { IfOk result (λ races. IfSome races (λ races. IsTrue races
-        → IsRacingRun program.now.flow.now program.now.observer.now threads walker.new.moves)) }
+    ensures raced { IfOk result (λ walked. IfSome walked (λ ends_in_race. IsTrue ends_in_race
+        → RacesAmong program.now threads walker.new.moves)) }
 {
     match Running::begin(alloc, program, frees, threads) {
         Ok(Some(run)) => walk(walker, program, run),

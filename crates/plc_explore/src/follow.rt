@@ -1,39 +1,19 @@
-// A recorded run with some of its moves left out: whether it still races, and where its threads stand on the way.
+// Moves are made again, from where runs begin, up to a race. What was made is kept beside where its threads stood, so
+// that a run that is answered is always one that was made itself, move by move.
+ghost use Rattle.std.specs.Prelude.{◌≡◌, ◌≤◌, ◌<◌, ◌+◌, ◌++◌, ◌∷◌, [], IfOk, IfSome, IsTrue, OnOk, length};
+ghost use Rattle.plc_run.specs.Position.{threads_of};
+ghost use Rattle.plc_explore.specs.Racing.{RacesAmong};
 ghost use Rattle.plc_explore.specs.Running.{IsRunOf, MayRun};
+ghost use Rattle.plc_explore.specs.Walking.{IsRaceOf, IsWalked};
+ghost use Rattle.plc_explore.specs.Following.{IsMet};
 
 use crate::frees::Frees;
 use crate::program::Program;
 use crate::running::{Running, mover};
-use plc_base::NoMemory;
+use plc_base::{Items, NoMemory};
 use plc_moves::Move;
 use plc_run::{Config, Moved};
 use std::alloc::Global;
-
-/// A recorded run among so many threads, and which of its moves are kept.
-#[derive(Drop)]
-pub struct RacingRun {
-    /// The moves.
-    pub moves: Vec<Move>,
-    /// Whether each is kept.
-    pub kept: Vec<bool>,
-    /// How many threads there are.
-    pub threads: u32,
-}
-
-impl RacingRun {
-    /// Whether a move is kept.
-    pub fn is_kept(&self, number: usize) -> bool {
-        self.kept.get(number) == Some(&true)
-    }
-
-    /// Whether a move is a free that is kept.
-    pub fn is_kept_free(&self, number: usize) -> bool {
-        match self.moves.get(number) {
-            Some(Move::Free { .. }) => self.is_kept(number),
-            _ => false,
-        }
-    }
-}
 
 /// Where a thread stood before a move of its own: the number of the move, the thread, and the point, if it was in an
 /// operation.
@@ -44,26 +24,33 @@ pub struct Stand {
     pub at: Option<u16>,
 }
 
-/// What following a run shows of its moves.
+/// A run that was made, up to a race, which is its last move: each free has the address that was freed.
 #[derive(Drop)]
-pub struct Way {
+pub struct Followed {
+    /// How many threads there are.
+    pub threads: u32,
+    /// The moves.
+    pub moves: Items<Move>,
     /// Where the threads stood before each move of theirs.
     pub stands: Vec<Stand>,
-    /// The numbers of the frees that did nothing.
-    pub idle: Vec<usize>,
+}
+
+/// The moves that were made so far, and where their threads stood.
+#[derive(Drop)]
+struct Made {
+    moves: Items<Move>,
+    stands: Vec<Stand>,
 }
 
 /// What came of one move.
 #[derive(Clone, Copy)]
-enum Met {
+pub enum Met {
     /// It leads on.
     Goes,
     /// It is a race.
     Races,
     /// There is no such move.
     None,
-    /// It is a free, and nothing is freed.
-    Idle,
 }
 
 /// Where the thread of a move stands before it.
@@ -76,87 +63,207 @@ fn stand_of(config: &Config, number: usize, m: &Move) -> Option<Stand> {
     Some(Stand { number, t, at })
 }
 
-/// What came of a move, of which this is said where there was none.
-fn outcome(made: Result<Moved, NoMemory>, otherwise: Met) -> Result<Met, NoMemory> {
-    match made {
-        Ok(Moved::Done) => Ok(Met::Goes),
-        Ok(Moved::Race { .. }) => Ok(Met::Races),
-        Ok(Moved::Blocked | Moved::Forbidden { .. }) => Ok(otherwise),
+/// The same numbers.
+fn same_numbers(alloc: Global, numbers: &Items<u32>) -> Result<Items<u32>, NoMemory>
+    ensures { IfOk result (λ same. same ≡ numbers.now) }
+{
+    let numbers = Vec::from_slice(alloc, numbers.as_slice())?;
+    Ok(Items::from_vec(numbers))
+}
+
+/// The same move.
+pub fn same_move(alloc: Global, m: &Move) -> Result<Move, NoMemory>
+    ensures { IfOk result (λ same. same ≡ m.now) }
+{
+    match m {
+        Move::Start { t, op, args } => {
+            let args = same_numbers(alloc, args)?;
+            Ok(Move::Start {
+                t: *t,
+                op: *op,
+                args,
+            })
+        }
+        Move::Step { t, nth, addr } => Ok(Move::Step {
+            t: *t,
+            nth: *nth,
+            addr: *addr,
+        }),
+        Move::Return { t } => Ok(Move::Return { t: *t }),
+        Move::Free { a } => Ok(Move::Free { a: *a }),
+    }
+}
+
+impl Made {
+    /// Keeps a move that was made, and where its thread stood before it.
+    fn keep(&mut self, m: Move, stand: Option<Stand>) -> Result<(), NoMemory>
+        ensures { OnOk result (self.new.moves ≡ self.old.moves ++ m ∷ []) }
+    {
+        if let Some(stand) = stand {
+            self.stands.push(stand)?;
+        }
+        self.moves.push(m)?;
+        Ok(())
+    }
+
+    /// Makes a move, if there is one now, and keeps it.
+    fn make(&mut self, program: &Program, run: &mut Running, m: Move) -> Result<Met, NoMemory>
+        requires of_run { IsRunOf program.now run.old.config }
+        requires walked { IsWalked program.now self.old.moves run.old.config }
+        ensures of_run { IsRunOf program.now run.new.config }
+        ensures many { threads_of run.new.config ≡ threads_of run.old.config }
+        ensures met { IfOk result (λ met. IsMet program.now met self.new.moves run.new.config) }
+        ensures one_more { IfOk result (λ met. length self.new.moves ≤ length self.old.moves + 1) }
+    {
+        let stand = stand_of(&run.config, self.moves.len(), &m);
+        match run.make(program, &m) {
+            Ok(Moved::Done) => {
+                self.keep(m, stand)?;
+                Ok(Met::Goes)
+            }
+            Ok(Moved::Race { .. }) => {
+                self.keep(m, stand)?;
+                Ok(Met::Races)
+            }
+            Ok(Moved::Blocked | Moved::Forbidden { .. }) => Ok(Met::None),
+            Err(fault) => Err(fault),
+        }
+    }
+
+    /// Frees an address; where it may not be freed now, nothing happens.
+    fn free(&mut self, program: &Program, run: &mut Running, a: u32) -> Result<Met, NoMemory>
+        requires of_run { IsRunOf program.now run.old.config }
+        requires walked { IsWalked program.now self.old.moves run.old.config }
+        ensures of_run { IsRunOf program.now run.new.config }
+        ensures many { threads_of run.new.config ≡ threads_of run.old.config }
+        ensures met { IfOk result (λ met. IsMet program.now met self.new.moves run.new.config) }
+        ensures one_more { IfOk result (λ met. length self.new.moves ≤ length self.old.moves + 1) }
+    {
+        match self.make(program, run, Move::Free { a }) {
+            Ok(Met::None) => Ok(Met::Goes),
+            made => made,
+        }
+    }
+
+    /// Makes a recorded move again. A free is that of the address that is to be freed now; where there is none, nothing
+    /// happens.
+    fn make_again(
+        &mut self,
+        alloc: Global,
+        program: &Program,
+        run: &mut Running,
+        m: &Move,
+    ) -> Result<Met, NoMemory>
+        requires of_run { IsRunOf program.now run.old.config }
+        requires walked { IsWalked program.now self.old.moves run.old.config }
+        ensures of_run { IsRunOf program.now run.new.config }
+        ensures many { threads_of run.new.config ≡ threads_of run.old.config }
+        ensures met { IfOk result (λ met. IsMet program.now met self.new.moves run.new.config) }
+        ensures one_more { IfOk result (λ met. length self.new.moves ≤ length self.old.moves + 1) }
+    {
+        if let Move::Free { a } = m {
+            return match run.frees.again(*a) {
+                Some(a) => self.free(program, run, a),
+                None => Ok(Met::Goes),
+            };
+        }
+        let m = same_move(alloc, m)?;
+        self.make(program, run, m)
+    }
+
+    /// Makes recorded moves again, up to the first race, and answers whether there is one.
+    fn make_all(
+        &mut self,
+        alloc: Global,
+        program: &Program,
+        run: &mut Running,
+        moves: &[Move],
+    ) -> Result<bool, NoMemory>
+        requires of_run { IsRunOf program.now run.old.config }
+        requires walked { IsWalked program.now self.old.moves run.old.config }
+        requires none { self.old.moves ≡ [] }
+        ensures many { threads_of run.new.config ≡ threads_of run.old.config }
+        ensures races { IfOk result (λ races. IsTrue races → IsRaceOf program.now run.new.config self.new.moves) }
+        ensures no_longer { IfOk result (λ races. length self.new.moves ≤ length moves.now) }
+    {
+        for m in moves {
+            match self.make_again(alloc, program, run, m) {
+                Ok(Met::Goes) => {}
+                Ok(Met::Races) => return Ok(true),
+                Ok(Met::None) => return Ok(false),
+                Err(fault) => return Err(fault),
+            }
+        }
+        Ok(false)
+    }
+}
+
+/// Makes recorded moves again from where a run begins, and ends the run.
+fn make_and_end(
+    alloc: Global,
+    program: &Program,
+    mut run: Running,
+    moves: &[Move],
+) -> Result<Option<Made>, NoMemory>
+    requires of_run { IsRunOf program.now run.config }
+    requires begins { IsWalked program.now [] run.config }
+    ensures races { IfOk result (λ found. IfSome found (λ made.
+        RacesAmong program.now (threads_of run.entry.config) made.moves)) }
+    ensures no_longer { IfOk result (λ found. IfSome found (λ made. length made.moves ≤ length moves.now)) }
+{
+    let mut made = Made {
+        moves: Items::new(alloc),
+        stands: Vec::new(alloc),
+    };
+    let races = made.make_all(alloc, program, &mut run, moves);
+    drop(run);
+    match races {
+        Ok(true) => Ok(Some(made)),
+        Ok(false) => Ok(None),
         Err(fault) => Err(fault),
     }
 }
 
-/// Makes a move again. A free is that of the address that is to be freed now; where there is none, or it may not be
-/// freed now, nothing happens.
-fn make_again(program: &Program, run: &mut Running, m: &Move) -> Result<Met, NoMemory>
-    requires { IsRunOf program.now run.old.config }
-    ensures { IsRunOf program.now run.new.config }
+/// What was made of recorded moves among so many threads, if there is a race.
+fn make_from_beginning(
+    alloc: Global,
+    program: &Program,
+    frees: &mut Frees,
+    threads: u32,
+    moves: &[Move],
+) -> Result<Option<Made>, NoMemory>
+    requires may { MayRun program.now }
+    requires some { 0 < threads }
+    ensures races { IfOk result (λ found. IfSome found (λ made. RacesAmong program.now threads made.moves)) }
+    ensures no_longer { IfOk result (λ found. IfSome found (λ made. length made.moves ≤ length moves.now)) }
 {
-    match m {
-        Move::Free { a } => match run.frees.again(*a) {
-            Some(a) => outcome(run.free(program, a), Met::Idle),
-            None => Ok(Met::Idle),
-        },
-        _ => outcome(run.make(program, m), Met::None),
+    match Running::begin(alloc, program, frees, threads) {
+        Ok(Some(run)) => make_and_end(alloc, program, run, moves),
+        Ok(None) => Ok(None),
+        Err(fault) => Err(fault),
     }
 }
 
-/// Follows the moves that are kept, and answers how many of all moves there are up to the race, if one races.
-fn follow_from(
-    program: &Program,
-    run: &mut Running,
-    recorded: &RacingRun,
-    way: &mut Way,
-) -> Result<Option<usize>, NoMemory>
-    requires { IsRunOf program.now run.old.config }
-{
-    for (number, m) in recorded.moves.iter().enumerate() {
-        if !recorded.is_kept(number) {
-            continue;
-        }
-        if let Some(stand) = stand_of(&run.config, number, m) {
-            way.stands.push(stand)?;
-        }
-        match make_again(program, run, m) {
-            Ok(Met::Goes) => {}
-            Ok(Met::Idle) => way.idle.push(number)?,
-            Ok(Met::Races) => return Ok(Some(number.saturating_add(1))),
-            Ok(Met::None) => return Ok(None),
-            Err(fault) => return Err(fault),
-        }
-    }
-    Ok(None)
-}
-
-/// Follows the moves that are kept from where a run begins, and ends the run.
-fn follow_and_end(
-    program: &Program,
-    mut run: Running,
-    recorded: &RacingRun,
-    way: &mut Way,
-) -> Result<Option<usize>, NoMemory>
-    requires { IsRunOf program.now run.config }
-{
-    let count = follow_from(program, &mut run, recorded, way);
-    drop(run);
-    count
-}
-
-/// Follows the moves that are kept, from where runs begin, and answers how many of all moves there are up to the race,
-/// if one races. `way` says what was seen of them.
+/// Makes recorded moves again, from where runs begin, up to the first race. If there is one, the run that was made is
+/// answered. Where a reclaimer picks what is freed, a free stands for asking it.
 pub fn follow(
     alloc: Global,
     program: &Program,
     frees: &mut Frees,
-    recorded: &RacingRun,
-    way: &mut Way,
-) -> Result<Option<usize>, NoMemory>
+    threads: u32,
+    moves: &[Move],
+) -> Result<Option<Followed>, NoMemory>
     requires { MayRun program.now }
+    ensures races { IfOk result (λ found. IfSome found (λ run. RacesAmong program.now run.threads run.moves)) }
+    ensures no_longer { IfOk result (λ found. IfSome found (λ run. length run.moves ≤ length moves.now)) }
 {
-    way.stands.clear();
-    way.idle.clear();
-    match Running::begin(alloc, program, frees, recorded.threads.max(1)) {
-        Ok(Some(run)) => follow_and_end(program, run, recorded, way),
+    let threads = threads.max(1);
+    match make_from_beginning(alloc, program, frees, threads, moves) {
+        Ok(Some(made)) => Ok(Some(Followed {
+            threads,
+            moves: made.moves,
+            stands: made.stands,
+        })),
         Ok(None) => Ok(None),
         Err(fault) => Err(fault),
     }

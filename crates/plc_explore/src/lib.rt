@@ -1,6 +1,5 @@
-//! Runs of a program that are drawn until one races, and are then made short. What is drawn and races is a run of the
-//! definition (`explore`); of what is made short nothing is said here. Whoever answers one follows it once more, as
-//! `plc_hunting` does.
+//! Draws runs of a program until one races, and makes that run short. What is found is a run of the definition whose
+//! last move is a race (`explore`), and so is what is made short of it, which has no more moves (`shorten`).
 //!
 //! A run is drawn as in probabilistic concurrency testing (Burckhardt and others, ASPLOS 2010): the first thread moves
 //! that can, in an order that changes at a few moves. Addresses are used again as soon as they can be, since that is

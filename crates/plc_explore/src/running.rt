@@ -59,7 +59,8 @@ impl<'a> Running<'a> {
         requires may { MayRun program.now }
         requires some { 0 < threads }
         ensures of_run { IfOk result (λ begun. IfSome begun (λ run. IsRunOf program.now run.config)) }
-        ensures begins { IfOk result (λ begun. IfSome begun (λ run. (IsWalked program.now [] run.config) × (threads_of run.config ≡ threads))) }
+        ensures walked { IfOk result (λ begun. IfSome begun (λ run. IsWalked program.now [] run.config)) }
+        ensures many { IfOk result (λ begun. IfSome begun (λ run. threads_of run.config ≡ threads)) }
     {
         frees.begin(program.schemes)?;
         match Config::start(alloc, program.flow, program.observer, threads) {

@@ -1,10 +1,15 @@
 // A run that races is made short: moves are left out as long as it still races. What is left out at once are the moves
 // of one thread between two moments at which it stands at the same point, or from one moment on; so a whole operation,
 // a turn of a loop, and all that a thread does are among them. The longest are tried first. Each attempt is followed
-// from the beginning (delta debugging, Zeller 1999).
+// from the beginning (delta debugging, Zeller 1999), and what was made on the way, up to the race, is what is left: the
+// run that is answered was made itself, and nothing rests on what was left out. At last the threads are numbered in the
+// order in which they move first, and that is followed, too.
+ghost use Rattle.std.specs.Prelude.{◌≡◌, ◌⊎◌, ◌≤◌, ◌+◌, IfOk, OnOk, length};
+ghost use Rattle.plc_explore.specs.Racing.{RacesAmong};
 ghost use Rattle.plc_explore.specs.Running.{MayRun};
+ghost use Rattle.plc_explore.specs.Shortening.{IsLeft};
 
-use crate::follow::{RacingRun, Stand, Way, follow};
+use crate::follow::{Followed, Stand, follow, same_move};
 use crate::frees::Frees;
 use crate::program::Program;
 use crate::running::mover;
@@ -13,202 +18,234 @@ use plc_base::{Items, NoMemory};
 use plc_moves::Move;
 use std::alloc::Global;
 
-/// Which moves of a run are kept, and what was seen of them when they were followed last.
-#[derive(Drop)]
-struct Shortening {
-    alloc: Global,
-    run: RacingRun,
-    way: Way,
-}
-
-/// Leaves out the moves of these numbers.
-fn leave_out(kept: &mut [bool], numbers: &[usize]) {
-    for number in numbers {
-        if let Some(kept) = kept.get_mut(*number) {
-            *kept = false;
-        }
-    }
-}
-
-impl Shortening {
-    /// Follows the moves that are kept, and keeps none after the race, and no free that did nothing.
-    fn races(&mut self, program: &Program, frees: &mut Frees) -> Result<bool, NoMemory>
-        requires { MayRun program.now }
-    {
-        match follow(self.alloc, program, frees, &self.run, &mut self.way) {
-            Ok(Some(count)) => {
-                self.keep_first(count);
-                leave_out(&mut self.run.kept, &self.way.idle);
-                Ok(true)
-            }
-            Ok(None) => Ok(false),
-            Err(fault) => Err(fault),
-        }
-    }
-
-    /// Keeps none after so many moves.
-    fn keep_first(&mut self, count: usize) {
-        for number in count..self.run.kept.len() {
-            if let Some(kept) = self.run.kept.get_mut(number) {
-                *kept = false;
-            }
-        }
-    }
-
-    /// Leaves out the moves of these numbers, if the run then still races.
-    fn tries_without(
-        &mut self,
-        program: &Program,
-        frees: &mut Frees,
-        numbers: &[usize],
-    ) -> Result<bool, NoMemory>
-        requires { MayRun program.now }
-    {
-        let before = Vec::from_slice(self.alloc, &self.run.kept)?;
-        leave_out(&mut self.run.kept, numbers);
-        let races = self.races(program, frees);
-        if matches!(races, Ok(false)) {
-            self.run.kept = before;
-        }
-        races
-    }
-
-    /// The moves of a thread that are kept, each with where the thread stood before it.
-    fn moves_of(&self, t: u32) -> Result<Vec<Stand>, NoMemory> {
-        let mut own = Vec::new(self.alloc);
-        for stand in &self.way.stands {
-            if stand.t == t {
-                own.push(*stand)?;
-            }
-        }
-        Ok(own)
-    }
-}
-
-/// Whether so many moves of a thread from one on may be left out: those up to the last, or up to one before which it
-/// stands where it stood.
-fn is_round(own: &[Stand], from: usize, length: usize) -> bool {
-    let Some(first) = own.get(from) else {
-        return false;
-    };
-    match own.get(from.saturating_add(length)) {
-        Some(next) => next.at == first.at,
-        None => from.saturating_add(length) == own.len(),
-    }
-}
-
-/// The numbers of so many moves of a thread from one on.
-fn numbers_of(
-    alloc: Global,
-    own: &[Stand],
+/// What is left out of a run: of its moves from one number on up to another those of one thread, or the frees.
+#[derive(Clone, Copy)]
+struct Cut {
+    by: Option<u32>,
     from: usize,
-    length: usize,
-) -> Result<Vec<usize>, NoMemory> {
-    let mut numbers = Vec::new(alloc);
-    for stand in own.iter().skip(from).take(length) {
-        numbers.push(stand.number)?;
-    }
-    Ok(numbers)
+    to: usize,
 }
 
-/// Leaves out the moves of a thread that this lists, if the run then still races.
-fn tries_without_all(
-    s: &mut Shortening,
-    program: &Program,
-    frees: &mut Frees,
-    own: &[Stand],
-    from: usize,
-    length: usize,
-) -> Result<bool, NoMemory>
-    requires { MayRun program.now }
+/// Adds the same moves.
+fn push_all(alloc: Global, left: &mut Items<Move>, moves: &[Move]) -> Result<(), NoMemory>
+    ensures { OnOk result (length left.new ≤ length left.old + length moves.now) }
 {
-    let numbers = numbers_of(s.alloc, own, from, length)?;
-    s.tries_without(program, frees, &numbers)
+    for m in moves {
+        left.push(same_move(alloc, m)?)?;
+    }
+    Ok(())
 }
 
-/// Leaves out so many moves of a thread in one place, if there is one where the run then still races.
-fn leave_round(
-    s: &mut Shortening,
+/// Adds the same moves, but those of one thread, or the frees.
+fn push_others(
+    alloc: Global,
+    left: &mut Items<Move>,
+    moves: &[Move],
+    by: Option<u32>,
+) -> Result<(), NoMemory>
+    ensures { OnOk result (length left.new ≤ length left.old + length moves.now) }
+{
+    for m in moves {
+        if mover(m) != by {
+            left.push(same_move(alloc, m)?)?;
+        }
+    }
+    Ok(())
+}
+
+/// The moves without those that are left out.
+fn without(alloc: Global, moves: &[Move], cut: Cut) -> Result<Items<Move>, NoMemory>
+    ensures { IfOk result (λ left. length left ≤ length moves.now) }
+{
+    let to = cut.to.min(moves.len());
+    let from = cut.from.min(to);
+    let mut left = Items::new(alloc);
+    push_all(alloc, &mut left, &moves[..from])?;
+    push_others(alloc, &mut left, &moves[from..to], cut.by)?;
+    push_all(alloc, &mut left, &moves[to..])?;
+    Ok(left)
+}
+
+/// What is left without these moves, if that races.
+fn tries_without(
+    alloc: Global,
     program: &Program,
     frees: &mut Frees,
-    own: &[Stand],
-    length: usize,
-) -> Result<bool, NoMemory>
+    run: &Followed,
+    cut: Cut,
+) -> Result<Option<Followed>, NoMemory>
     requires { MayRun program.now }
+    ensures { IfOk result (IsLeft program.now (length run.now.moves)) }
+{
+    let moves = without(alloc, run.moves.as_slice(), cut)?;
+    follow(alloc, program, frees, run.threads, moves.as_slice())
+}
+
+/// The moves of a thread, each with where the thread stood before it.
+fn moves_of(alloc: Global, run: &Followed, t: u32) -> Result<Vec<Stand>, NoMemory> {
+    let mut own = Vec::new(alloc);
+    for stand in &run.stands {
+        if stand.t == t {
+            own.push(*stand)?;
+        }
+    }
+    Ok(own)
+}
+
+/// The moves of a thread between two of its stands at one point, so many of them, or all from one stand on.
+fn round_of(own: &[Stand], from: usize, count: usize) -> Option<Cut> {
+    let first = own.get(from)?;
+    let to = match own.get(from.saturating_add(count)) {
+        Some(next) if next.at == first.at => next.number,
+        None if from.saturating_add(count) == own.len() => usize::MAX,
+        _ => return None,
+    };
+    Some(Cut {
+        by: Some(first.t),
+        from: first.number,
+        to,
+    })
+}
+
+/// What is left without so many moves of a thread in one place, if there is one where the rest races.
+fn leave_round(
+    alloc: Global,
+    program: &Program,
+    frees: &mut Frees,
+    run: &Followed,
+    own: &[Stand],
+    count: usize,
+) -> Result<Option<Followed>, NoMemory>
+    requires { MayRun program.now }
+    ensures { IfOk result (IsLeft program.now (length run.now.moves)) }
 {
     for from in 0..own.len() {
-        if is_round(own, from, length) {
-            match tries_without_all(s, program, frees, own, from, length) {
-                Ok(false) => {}
+        if let Some(cut) = round_of(own, from, count) {
+            match tries_without(alloc, program, frees, run, cut) {
+                Ok(None) => {}
                 tried => return tried,
             }
         }
     }
-    Ok(false)
+    Ok(None)
 }
 
-/// Leaves out some of these moves of a thread, the most that go at once, if there are any.
+/// What is left without some of these moves of a thread, the most that go at once, if there are any.
 fn leave_most(
-    s: &mut Shortening,
+    alloc: Global,
     program: &Program,
     frees: &mut Frees,
+    run: &Followed,
     own: &[Stand],
-) -> Result<bool, NoMemory>
+) -> Result<Option<Followed>, NoMemory>
     requires { MayRun program.now }
+    ensures { IfOk result (IsLeft program.now (length run.now.moves)) }
 {
     for k in 0..own.len() {
-        match leave_round(s, program, frees, own, own.len() - k) {
-            Ok(false) => {}
+        match leave_round(alloc, program, frees, run, own, own.len() - k) {
+            Ok(None) => {}
             tried => return tried,
         }
     }
-    Ok(false)
+    Ok(None)
 }
 
-/// Leaves out some moves of a thread, the most that go at once, if there are any.
+/// What is left without some moves of a thread, the most that go at once, if there are any.
 fn leave_some(
-    s: &mut Shortening,
+    alloc: Global,
     program: &Program,
     frees: &mut Frees,
+    run: &Followed,
     t: u32,
-) -> Result<bool, NoMemory>
+) -> Result<Option<Followed>, NoMemory>
     requires { MayRun program.now }
+    ensures { IfOk result (IsLeft program.now (length run.now.moves)) }
 {
-    let own = s.moves_of(t)?;
-    leave_most(s, program, frees, &own)
+    let own = moves_of(alloc, run, t)?;
+    leave_most(alloc, program, frees, run, &own)
 }
 
-/// Leaves out one free, if there is one that isn't needed.
-fn leave_free(s: &mut Shortening, program: &Program, frees: &mut Frees) -> Result<bool, NoMemory>
+/// What is left without some moves of one thread, the first that has any that aren't needed.
+fn leave_of_one(
+    alloc: Global,
+    program: &Program,
+    frees: &mut Frees,
+    run: &Followed,
+) -> Result<Option<Followed>, NoMemory>
     requires { MayRun program.now }
+    ensures { IfOk result (IsLeft program.now (length run.now.moves)) }
 {
-    for number in 0..s.run.moves.len() {
-        if s.run.is_kept_free(number) {
-            match s.tries_without(program, frees, &[number]) {
-                Ok(false) => {}
+    for t in 0..run.threads {
+        match leave_some(alloc, program, frees, run, t) {
+            Ok(None) => {}
+            tried => return tried,
+        }
+    }
+    Ok(None)
+}
+
+/// What is left without one free, if there is one that isn't needed.
+fn leave_free(
+    alloc: Global,
+    program: &Program,
+    frees: &mut Frees,
+    run: &Followed,
+) -> Result<Option<Followed>, NoMemory>
+    requires { MayRun program.now }
+    ensures { IfOk result (IsLeft program.now (length run.now.moves)) }
+{
+    for (number, m) in run.moves.as_slice().iter().enumerate() {
+        if mover(m).is_none() {
+            let cut = Cut {
+                by: None,
+                from: number,
+                to: number.saturating_add(1),
+            };
+            match tries_without(alloc, program, frees, run, cut) {
+                Ok(None) => {}
                 tried => return tried,
             }
         }
     }
-    Ok(false)
+    Ok(None)
 }
 
-/// Leaves out some moves, if there are any that aren't needed.
-fn leave_any(s: &mut Shortening, program: &Program, frees: &mut Frees) -> Result<bool, NoMemory>
+/// What is left without some moves, if there are any that aren't needed.
+fn leave_any(
+    alloc: Global,
+    program: &Program,
+    frees: &mut Frees,
+    run: &Followed,
+) -> Result<Option<Followed>, NoMemory>
     requires { MayRun program.now }
+    ensures { IfOk result (IsLeft program.now (length run.now.moves)) }
 {
-    // An attempt that failed has followed other moves, so what is kept is followed again.
-    for t in 0..s.run.threads {
-        match s.races(program, frees) {
-            Ok(true) => {}
-            races => return races,
-        }
-        match leave_some(s, program, frees, t) {
-            Ok(false) => {}
-            tried => return tried,
+    match leave_of_one(alloc, program, frees, run) {
+        Ok(None) => leave_free(alloc, program, frees, run),
+        tried => tried,
+    }
+}
+
+/// Leaves out moves until none is left that isn't needed.
+fn leave_all(
+    alloc: Global,
+    program: &Program,
+    frees: &mut Frees,
+    mut run: Followed,
+) -> Result<Followed, NoMemory>
+    requires may { MayRun program.now }
+    requires races { RacesAmong program.now run.threads run.moves }
+    ensures races { IfOk result (λ short. RacesAmong program.now short.threads short.moves) }
+    ensures no_longer { IfOk result (λ short. length short.moves ≤ length run.moves) }
+{
+    for _ in 0..run.moves.len() {
+        match leave_any(alloc, program, frees, &run) {
+            Ok(Some(left)) => run = left,
+            Ok(None) => return Ok(run),
+            Err(fault) => return Err(fault),
         }
     }
-    leave_free(s, program, frees)
+    Ok(run)
 }
 
 /// The number of a thread among those that were met so far, which it joins if it is new.
@@ -241,69 +278,74 @@ fn mover_among(met: &mut Vec<u32>, m: &Move) -> Result<u32, NoMemory> {
     }
 }
 
-/// Adds a move if it is kept, by the thread with its number among those that were met so far.
-fn add_kept(
-    moves: &mut Items<Move>,
-    met: &mut Vec<u32>,
-    m: Move,
-    is_kept: bool,
-) -> Result<(), NoMemory> {
-    if is_kept {
-        let t = mover_among(met, &m)?;
-        moves.push(by_thread(m, t))?;
-    }
-    Ok(())
-}
-
-/// Adds the moves that are kept.
-fn add_all_kept(
-    moves: &mut Items<Move>,
-    met: &mut Vec<u32>,
-    run: RacingRun,
-) -> Result<(), NoMemory> {
-    for (m, is_kept) in run.moves.into_iter().zip(run.kept.into_iter()) {
-        add_kept(moves, met, m, is_kept)?;
-    }
-    Ok(())
-}
-
-/// The moves that are kept, with threads numbered in the order in which they move first.
-fn kept_moves(alloc: Global, run: RacingRun) -> Result<Trail, NoMemory> {
+/// The same moves, and how many threads make them, with threads numbered in the order in which they move first.
+fn numbered(alloc: Global, moves: &[Move]) -> Result<Trail, NoMemory>
+    ensures { IfOk result (λ same. length same.moves ≡ length moves.now) }
+{
     let mut met = Vec::new(alloc);
-    let mut moves = Items::new(alloc);
-    add_all_kept(&mut moves, &mut met, run)?;
+    let mut same = Items::new(alloc);
+    for m in moves {
+        let t = mover_among(&mut met, m)?;
+        let m = same_move(alloc, m)?;
+        same.push(by_thread(m, t))?;
+    }
     Ok(Trail {
         threads: met.len().clamp(1, 64) as u32,
-        moves,
+        moves: same,
     })
 }
 
-/// A run of which all moves are kept.
-fn all_kept(alloc: Global, trail: Trail) -> Result<RacingRun, NoMemory> {
-    let kept = vec![in alloc; true; trail.moves.len()]?;
-    Ok(RacingRun {
-        moves: trail.moves.into_vec(),
-        kept,
-        threads: trail.threads,
-    })
-}
-
-/// Leaves out moves until none is left that isn't needed.
-fn leave_all(s: &mut Shortening, program: &Program, frees: &mut Frees) -> Result<(), NoMemory>
-    requires { MayRun program.now }
+/// A run with threads numbered in the order in which they move first, if it races then too; else as it is.
+fn in_order(
+    alloc: Global,
+    program: &Program,
+    frees: &mut Frees,
+    run: Followed,
+) -> Result<Followed, NoMemory>
+    requires may { MayRun program.now }
+    requires races { RacesAmong program.now run.threads run.moves }
+    ensures races { IfOk result (λ short. RacesAmong program.now short.threads short.moves) }
+    ensures no_longer { IfOk result (λ short. length short.moves ≤ length run.moves) }
 {
-    for _ in 0..s.run.moves.len() {
-        match leave_any(s, program, frees) {
-            Ok(true) => {}
-            Ok(false) => return Ok(()),
-            Err(fault) => return Err(fault),
-        }
+    let other = numbered(alloc, run.moves.as_slice())?;
+    match follow(alloc, program, frees, other.threads, other.moves.as_slice()) {
+        Ok(Some(left)) => Ok(left),
+        Ok(None) => Ok(run),
+        Err(fault) => Err(fault),
     }
-    Ok(())
 }
 
-/// Makes a run that races short. The run that is answered races, where the one that is given does; no clause says so,
-/// and whoever shows it follows it once more. The one error is that memory runs out.
+/// The moves of a run.
+fn trail_of(run: Followed) -> Trail
+    ensures threads { result.threads ≡ run.threads }
+    ensures moves { result.moves ≡ run.moves }
+{
+    Trail {
+        threads: run.threads,
+        moves: run.moves,
+    }
+}
+
+/// Makes a run short that was followed to its race.
+fn shorten_followed(
+    alloc: Global,
+    program: &Program,
+    frees: &mut Frees,
+    run: Followed,
+) -> Result<Trail, NoMemory>
+    requires may { MayRun program.now }
+    requires races { RacesAmong program.now run.threads run.moves }
+    ensures races { IfOk result (λ short. RacesAmong program.now short.threads short.moves) }
+    ensures no_longer { IfOk result (λ short. length short.moves ≤ length run.moves) }
+{
+    let run = leave_all(alloc, program, frees, run)?;
+    let run = in_order(alloc, program, frees, run)?;
+    Ok(trail_of(run))
+}
+
+/// Makes a run that races short. It is followed first: where that doesn't come to a race, since a reclaimer then frees
+/// other addresses, the run is answered as it was given. So what is answered races where the given run does, as each
+/// does that `explore` finds. The one error is that memory runs out.
 pub fn shorten(
     alloc: Global,
     program: &Program,
@@ -311,17 +353,14 @@ pub fn shorten(
     trail: Trail,
 ) -> Result<Trail, NoMemory>
     requires { MayRun program.now }
+    ensures races { IfOk result (λ short. RacesAmong program.now trail.threads trail.moves
+        → RacesAmong program.now short.threads short.moves) }
+    ensures or_given { IfOk result (λ short. (RacesAmong program.now short.threads short.moves) ⊎ (short ≡ trail)) }
+    ensures no_longer { IfOk result (λ short. length short.moves ≤ length trail.moves) }
 {
-    let mut s = Shortening {
-        alloc,
-        run: all_kept(alloc, trail)?,
-        way: Way {
-            stands: Vec::new(alloc),
-            idle: Vec::new(alloc),
-        },
-    };
-    match leave_all(&mut s, program, frees) {
-        Ok(()) => kept_moves(alloc, s.run),
+    match follow(alloc, program, frees, trail.threads, trail.moves.as_slice()) {
+        Ok(Some(run)) => shorten_followed(alloc, program, frees, run),
+        Ok(None) => Ok(trail),
         Err(fault) => Err(fault),
     }
 }

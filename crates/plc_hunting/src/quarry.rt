@@ -1,5 +1,5 @@
 // What a hunt brings in: runs of a program are drawn until one races, which is made short, and what can be said of its
-// race is found out. Nothing here is trusted, and no clause speaks of what is found: the answer follows it once more.
+// race is found out. Nothing here is trusted, and no clause here speaks of what is found: the answer follows it again.
 ghost use Rattle.plc_flow.specs.WellFormed.{FlowFits};
 ghost use Rattle.plc_explore.specs.Running.{IsIndexed};
 
