@@ -202,13 +202,7 @@ impl Grounding {
         ensures well { IfOk result (λ set. IsWellFormed set) }
         ensures set { IfOk result (λ set. set ≡ set_of program.now o.now) }
     {
-        let s = setting_of(
-            self.alloc,
-            program.marked,
-            program.flow,
-            program.outline,
-            o,
-        )?;
+        let s = setting_of(self.alloc, program.marked, program.flow, program.outline, o)?;
         self.last = s.bound;
         let kept = self.prefixes.take(s.bound);
         let w = Subject {

@@ -8,9 +8,11 @@ use Rattle.plc_oblig.proofs.grounding.conclude.Goals as goal
 
 pub cut-requires : goal.cut-requires
 cut-requires c =
-    let w = c.args.w.now in
-    (c.args.draft.now, written_after w.flow.now w.outline.now w.setting.now w.obligation.now c.args.executed.now c.args.draft.now _ _ _
-    c.requires.begun (c.in_ok-set.ensures.kept ∙ c.in_ok-push_conclusion.ensures) c.len-terms.ensures c.clauses-clauses.ensures)
+    let w = c.args.w.now in (
+      c.args.draft.now,
+      written_after w.flow.now w.outline.now w.setting.now w.obligation.now c.args.executed.now c.args.draft.now _ _ _
+          c.requires.begun (c.in_ok-set.ensures.kept ∙ c.in_ok-push_conclusion.ensures) c.len-terms.ensures c.clauses-clauses.ensures,
+    )
 
 pub returns : goal.returns
 returns c =
