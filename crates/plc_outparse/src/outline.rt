@@ -103,14 +103,10 @@ pub fn read_outline<'a>(
     ensures place { IfOk result (λ r. Within start.entry r.1) }
 {
     match outline_tree(alloc, start) {
-        Ok((form, after)) => {
-            let meaning = outline_meaning(alloc, scope, ops, &form);
-            drop(form);
-            match meaning {
-                Ok(outline) => Ok((outline, after)),
-                Err(fault) => Err(fault),
-            }
-        }
+        Ok((form, after)) => match outline_meaning(alloc, scope, ops, &form) {
+            Ok(outline) => Ok((outline, after)),
+            Err(fault) => Err(fault),
+        },
         Err(Fault::Syntax { at }) => Err(ParseFault::Syntax { at }),
         Err(Fault::Memory) => Err(ParseFault::Memory),
     }
