@@ -48,12 +48,17 @@ fn outline(alloc: Global, context: &Context, form: &OutlineForm) -> Resolved<Out
         invariants: Items::new(alloc),
         items: Items::new(alloc),
     };
-    add_items(alloc, context, &mut parts, form.items.as_slice())?;
-    Ok(Outline {
-        depth,
-        invariants: parts.invariants,
-        items: parts.items,
-    })
+    match add_items(alloc, context, &mut parts, form.items.as_slice()) {
+        Ok(()) => Ok(Outline {
+            depth,
+            invariants: parts.invariants,
+            items: parts.items,
+        }),
+        Err(fault) => {
+            drop(parts);
+            Err(fault)
+        }
+    }
 }
 
 /// What the tree of an outline means in a file with these names and operations; or the fault at the least
@@ -98,10 +103,14 @@ pub fn read_outline<'a>(
     ensures place { IfOk result (λ r. Within start.entry r.1) }
 {
     match outline_tree(alloc, start) {
-        Ok((form, after)) => match outline_meaning(alloc, scope, ops, &form) {
-            Ok(outline) => Ok((outline, after)),
-            Err(fault) => Err(fault),
-        },
+        Ok((form, after)) => {
+            let meaning = outline_meaning(alloc, scope, ops, &form);
+            drop(form);
+            match meaning {
+                Ok(outline) => Ok((outline, after)),
+                Err(fault) => Err(fault),
+            }
+        }
         Err(Fault::Syntax { at }) => Err(ParseFault::Syntax { at }),
         Err(Fault::Memory) => Err(ParseFault::Memory),
     }

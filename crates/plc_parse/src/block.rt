@@ -13,7 +13,7 @@ use crate::statement::{atomic, call_statement, declare_label, primitive_statemen
 use plc_lang::{Block, Line, Stmt};
 use plc_lex::Token;
 use plc_scope::{ParseFault, Resolved, Scope, condition};
-use plc_syntax::{Call, Condition};
+use plc_syntax::{Call, Condition, in_turn};
 use plc_tree::{Block as BlockForm, Stmt as StmtForm};
 use std::alloc::Global;
 
@@ -58,8 +58,10 @@ fn if_statement(
 {
     let cond = condition(scope, form)?;
     let yes = statements(context, scope, yes)?;
-    let no = else_block(context, scope, no)?;
-    Ok(Stmt::If { cond, yes, no })
+    in_turn!(
+        no = else_block(context, scope, no), dropping yes;
+        Ok(Stmt::If { cond, yes, no })
+    )
 }
 
 /// A choice at a place.
@@ -76,10 +78,10 @@ fn choose_statement(
     ensures { MeansStatement (lines_of context.entry.tokens.now) context.entry.in_loop at
         (ChooseStatement first.now second.now (ors_tree others.now)) scope.old scope.new result }
 {
-    let first = statements(context, scope, first)?;
-    let second = statements(context, scope, second)?;
     let mut choices = Vec::new(context.alloc);
+    let first = statements(context, scope, first)?;
     choices.push(first)?;
+    let second = statements(context, scope, second)?;
     choices.push(second)?;
     for block in others {
         let block = statements(context, scope, block)?;

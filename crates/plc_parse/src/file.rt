@@ -1,5 +1,5 @@
 // What a file's tree means: the declarations before the operations, the operations, and the outline. Each part
-// has a function of its own, so that few values live where one may fail.
+// has a function of its own, so that few values live where one may fail; those that live are dropped by name.
 ghost use Rattle.std.specs.Prelude.{◌≡◌, ◌≤◌, ◌+◌, ◌-◌, ◌*◌, ◌∷◌, Ok, [], length, IfOk};
 ghost use Rattle.plc_base.specs.Limits.{most, most_names};
 ghost use Rattle.plc_base.specs.declared.limits.What1.TheVariants as limits;
@@ -27,7 +27,7 @@ use plc_lex::Token;
 use plc_logic::Outline;
 use plc_outparse::outline_meaning;
 use plc_scope::{Binding, Resolved, Scope};
-use plc_syntax::{Initial, Placed, Watch};
+use plc_syntax::{Initial, Placed, Watch, in_turn};
 use plc_tree::{File as FileForm, Heading, Outline as OutlineForm};
 use std::alloc::Global;
 
@@ -49,10 +49,12 @@ fn declarations(alloc: Global, scope: &mut Scope, form: &Heading) -> Resolved<De
     ensures declares { IfOk result (λ _. AddsNames scope.old scope.new
         (most limits.Fields + most limits.Shared + most limits.Calls)) }
 {
-    let fields = declare_all(alloc, scope, form.node.fields.as_slice())?;
-    let shared = declare_all(alloc, scope, form.pointers.as_slice())?;
-    let functions = declare_all(alloc, scope, form.functions.as_slice())?;
-    Ok((fields, shared, functions))
+    in_turn!(
+        fields = declare_all(alloc, scope, form.node.fields.as_slice());
+        shared = declare_all(alloc, scope, form.pointers.as_slice()), dropping fields;
+        functions = declare_all(alloc, scope, form.functions.as_slice()), dropping fields, shared;
+        Ok((fields, shared, functions))
+    )
 }
 
 /// What a file says that is watched: plain where it says nothing.
@@ -138,18 +140,13 @@ fn before_operations(alloc: Global, scope: &mut Scope, form: &Heading) -> Resolv
         (front_means scope.old (heading_tree form.now)) }
     ensures declares { IfOk result (λ _. AddsNames scope.old scope.new front_names) }
 {
-    let declared = declarations(alloc, scope, form)?;
-    let observer = observer(scope, form.watched)?;
-    let ghosts = declare_all(alloc, scope, form.auxiliaries.as_slice())?;
-    match init_primitives(alloc, scope, &form.starts) {
-        Ok(init) => Ok(Front {
-            declared,
-            observer,
-            ghosts,
-            init,
-        }),
-        Err(fault) => Err(fault),
-    }
+    in_turn!(
+        declared = declarations(alloc, scope, form);
+        observer = observer(scope, form.watched), dropping declared;
+        ghosts = declare_all(alloc, scope, form.auxiliaries.as_slice()), dropping declared;
+        init = init_primitives(alloc, scope, &form.starts), dropping declared, ghosts;
+        Ok(Front { declared, observer, ghosts, init })
+    )
 }
 
 /// The operations and the outline.
@@ -167,31 +164,40 @@ fn operations_and_outline(
         (body_means (lines_of tokens.now) scope.old (file_tree form.now)) }
 {
     let ops = operations(alloc, scope, tokens, form.operations.as_slice())?;
-    let outline = outline_or_empty(alloc, scope, ops.as_slice(), &form.outline)?;
-    Ok((ops, outline))
+    in_turn!(
+        outline = outline_or_empty(alloc, scope, ops.as_slice(), &form.outline), dropping ops;
+        Ok((ops, outline))
+    )
 }
 
 /// The unit of these parts, with the names and labels in reach at its end.
 fn unit(scope: Scope, front: Front, ops: Items<Op>, outline: Outline) -> Resolved<Unit>
     ensures { Gives (λ unit. unit) result (Ok (unit_from (front_of front) (ops, outline, scope))) }
 {
-    let (fields, shared, functions) = front.declared;
-    let funcs = with_retire(functions)?;
-    let file = File {
-        names: scope.names,
-        fields,
-        shared,
-        funcs,
-        ghosts: front.ghosts,
-        init: front.init,
-        ops,
-        labels: scope.labels,
-    };
-    Ok(Unit {
-        file,
-        observer: front.observer,
-        outline,
-    })
+    let Front {
+        declared,
+        observer,
+        ghosts,
+        init,
+    } = front;
+    let (fields, shared, functions) = declared;
+    in_turn!(
+        funcs = with_retire(functions), dropping scope, fields, shared, ghosts, init, ops, outline;
+        Ok(Unit {
+            file: File {
+                names: scope.names,
+                fields,
+                shared,
+                funcs,
+                ghosts,
+                init,
+                ops,
+                labels: scope.labels,
+            },
+            observer,
+            outline,
+        })
+    )
 }
 
 /// The parts of a file after its struct's name. The scope stays with the caller, which ends it.
@@ -209,10 +215,10 @@ fn parts(
         (parts_mean (lines_of tokens.now) scope.old (file_tree form.now)) }
 {
     let front = before_operations(alloc, scope, &form.heading)?;
-    match operations_and_outline(alloc, scope, tokens, form) {
-        Ok((ops, outline)) => Ok((front, ops, outline)),
-        Err(fault) => Err(fault),
-    }
+    in_turn!(
+        (ops, outline) = operations_and_outline(alloc, scope, tokens, form), dropping front;
+        Ok((front, ops, outline))
+    )
 }
 
 /// The unit that a file's tree means, with the lines of its tokens.
@@ -224,6 +230,9 @@ pub fn file_unit(alloc: Global, tokens: &[Token], form: &FileForm) -> Resolved<U
     declare(&mut scope, form.heading.node.name, Binding::Taken)?;
     match parts(alloc, &mut scope, tokens, form) {
         Ok((front, ops, outline)) => unit(scope, front, ops, outline),
-        Err(fault) => Err(fault),
+        Err(fault) => {
+            drop(scope);
+            Err(fault)
+        }
     }
 }

@@ -16,11 +16,21 @@ use plc_lex::{Keyword, Symbol, TokenKind};
 /// A tree and what stands after it, or why there is none.
 pub type Read<'a, X> = Result<(X, Rest<'a>), Fault>;
 
-/// Readers one after another, and what is answered with what they read. Where one refuses, its fault is the answer.
-/// It is a match on each and no `?`, whose compiled code is longer, and so its proof.
+/// Readers one after another, and what is answered with what they read. Where one refuses, its fault is the answer,
+/// and what was read before and isn't copied is dropped by name. It is a match on each and no `?`, and a call of `drop`
+/// in place of what a compiler puts at the end of a scope, since their compiled code is longer, and so its proof.
 #[macro_export]
 macro_rules! in_turn {
     ($answer:expr) => { $answer };
+    ($read:pat = $reader:expr, dropping $($held:ident),+; $($then:tt)*) => {
+        match $reader {
+            Ok($read) => $crate::in_turn!($($then)*),
+            Err(fault) => {
+                $(drop($held);)+
+                Err(fault)
+            }
+        }
+    };
     ($read:pat = $reader:expr; $($then:tt)*) => {
         match $reader {
             Ok($read) => $crate::in_turn!($($then)*),
@@ -34,6 +44,9 @@ macro_rules! in_turn {
 macro_rules! form {
     ($form:expr; $part:ident = $read:expr) => {
         $crate::in_turn!(($part, after) = $read; Ok(($form, after)))
+    };
+    ($form:expr; $part:ident = $read:expr, dropping $($held:ident),+) => {
+        $crate::in_turn!(($part, after) = $read, dropping $($held),+; Ok(($form, after)))
     };
     ($form:expr; $part:ident = $read:expr, $end:ident) => {
         $crate::in_turn!(

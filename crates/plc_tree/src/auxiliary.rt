@@ -9,7 +9,7 @@ use crate::list::{braced_list_at, ended_list_at};
 use plc_base::Items;
 use plc_lex::{Keyword, Symbol};
 use plc_syntax::{
-    Front, Initial, Placed, Read, Rest, at_front, form, in_turn, name_at, syntax_fault,
+    Front, Initial, Placed, Read, Rest, at_front, form, in_turn, name_at, symbol_at, syntax_fault,
 };
 use std::alloc::Global;
 
@@ -43,7 +43,9 @@ fn ghost_tail_at<'a>(alloc: Global, most: usize, rest: Rest<'a>) -> Read<'a, Aux
 {
     in_turn!(
         (name, after) = name_at(rest);
-        form!(Auxiliary { name, kind }; kind = ghost_kind_at(alloc, most, after), Semicolon)
+        (kind, after) = ghost_kind_at(alloc, most, after);
+        after = symbol_at(after, Symbol::Semicolon), dropping kind;
+        Ok((Auxiliary { name, kind }, after))
     )
 }
 

@@ -11,9 +11,7 @@ ghost use Rattle.plc_tree.specs.Forms.{is_statement_word, begins_statement, begi
 ghost use Rattle.plc_tree.specs.Forms.{if_of, or_block_of, ors_of, choose_of, statement_of, statements_of, block_of};
 ghost use Rattle.plc_tree.specs.Views.{statement_tree, else_tree, ors_tree};
 
-use crate::statement::{
-    atomic_at, ended_at, guard_at, label_at, named_statement_at, primitive_statement_at,
-};
+use crate::statement::{atomic_at, guard_at, label_at, named_statement_at, primitive_statement_at};
 use crate::tree::{Block, Stmt};
 use plc_lex::{Keyword, Symbol};
 use plc_syntax::{Front, Placed, Read, Rest, at_front, form, in_turn, symbol_at, syntax_fault};
@@ -62,7 +60,11 @@ fn begins_or<'a>(rest: Rest<'a>) -> bool
 pub fn block_at<'a>(alloc: Global, most: usize, rest: Rest<'a>) -> Read<'a, Block<'a>>
     ensures { Gives (λ b. b) result (block_of most rest.entry.at (kinds rest.entry.tokens.now)) }
 {
-    form!(block; block = statements_at(alloc, most, rest), CloseBrace)
+    in_turn!(
+        (block, after) = statements_at(alloc, most, rest);
+        after = symbol_at(after, Symbol::CloseBrace), dropping block;
+        Ok((block, after))
+    )
 }
 
 /// A block with its opening brace.
@@ -105,7 +107,10 @@ fn if_at<'a>(alloc: Global, most: usize, rest: Rest<'a>) -> Read<'a, Stmt<'a>>
     in_turn!(
         (condition, after) = guard_at(rest);
         (yes, after) = braced_at(alloc, most, after);
-        form!(Stmt::If { condition, yes, no }; no = else_at(alloc, most, after))
+        form!(
+            Stmt::If { condition, yes, no };
+            no = else_at(alloc, most, after), dropping yes
+        )
     )
 }
 
@@ -150,8 +155,11 @@ fn choose_at<'a>(alloc: Global, most: usize, rest: Rest<'a>) -> Read<'a, Stmt<'a
 {
     in_turn!(
         (first, after) = braced_at(alloc, most, rest);
-        (second, after) = or_block_at(alloc, most, after);
-        form!(Stmt::Choose { first, second, others }; others = ors_at(alloc, most, after))
+        (second, after) = or_block_at(alloc, most, after), dropping first;
+        form!(
+            Stmt::Choose { first, second, others };
+            others = ors_at(alloc, most, after), dropping first, second
+        )
     )
 }
 
@@ -168,8 +176,10 @@ fn statement_at<'a>(alloc: Global, most: usize, rest: Rest<'a>) -> Read<'a, Stmt
         (Front::Word(Keyword::If), after) => if_at(alloc, most, after),
         (Front::Word(Keyword::Choose), after) => choose_at(alloc, most, after),
         (Front::Word(Keyword::Loop), after) => loop_at(alloc, most, after),
-        (Front::Word(Keyword::Break), after) => ended_at(Stmt::Break, after),
-        (Front::Word(Keyword::Return), after) => ended_at(Stmt::Return, after),
+        (Front::Word(Keyword::Break), after) =>
+            in_turn!(after = symbol_at(after, Symbol::Semicolon); Ok((Stmt::Break, after))),
+        (Front::Word(Keyword::Return), after) =>
+            in_turn!(after = symbol_at(after, Symbol::Semicolon); Ok((Stmt::Return, after))),
         (Front::Word(Keyword::Label), after) => label_at(after),
         _ => primitive_statement_at(rest),
     }

@@ -81,13 +81,13 @@ fn heading_at<'a>(alloc: Global, most: usize, rest: Rest<'a>) -> Read<'a, Headin
 {
     in_turn!(
         (node, after) = struct_at(alloc, most, rest);
-        (pointers, after) = list_at(alloc, most, after);
-        (functions, after) = list_at(alloc, most, after);
-        (watched, after) = watch_at(after);
-        (auxiliaries, after) = list_at(alloc, most, after);
+        (pointers, after) = list_at(alloc, most, after), dropping node;
+        (functions, after) = list_at(alloc, most, after), dropping node, pointers;
+        (watched, after) = watch_at(after), dropping node, pointers, functions;
+        (auxiliaries, after) = list_at(alloc, most, after), dropping node, pointers, functions;
         form!(
             Heading { node, pointers, functions, watched, auxiliaries, starts };
-            starts = init_at(alloc, most, after)
+            starts = init_at(alloc, most, after), dropping node, pointers, functions, auxiliaries
         )
     )
 }
@@ -98,8 +98,11 @@ fn file_at<'a>(alloc: Global, most: usize, rest: Rest<'a>) -> Read<'a, File<'a>>
 {
     in_turn!(
         (heading, after) = heading_at(alloc, most, rest);
-        (operations, after) = list_at(alloc, most, after);
-        form!(File { heading, operations, outline }; outline = outlined_at(alloc, most, after))
+        (operations, after) = list_at(alloc, most, after), dropping heading;
+        form!(
+            File { heading, operations, outline };
+            outline = outlined_at(alloc, most, after), dropping heading, operations
+        )
     )
 }
 
@@ -114,6 +117,7 @@ fn whole_file<'a>(alloc: Global, tokens: &'a [Token]) -> Result<File<'a>, Fault>
             if rest.tokens.is_empty() {
                 return Ok(file);
             }
+            drop(file);
             Err(syntax_fault(rest))
         }
         Err(fault) => Err(fault),

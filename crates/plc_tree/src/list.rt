@@ -79,7 +79,7 @@ pub fn ended_list_at<'a, T: Listed<'a>>(
 {
     in_turn!(
         (items, after) = list_at(alloc, most, rest);
-        after = symbol_at(after, end);
+        after = symbol_at(after, end), dropping items;
         Ok((items, after))
     )
 }

@@ -58,9 +58,12 @@ fn op_tail_at<'a>(alloc: Global, most: usize, rest: Rest<'a>) -> Read<'a, Operat
     in_turn!(
         (name, after) = name_and_at(rest, Symbol::OpenParen);
         (parameters, after) = parameters_at(alloc, most, after);
-        after = symbol_at(after, Symbol::OpenBrace);
-        (locals, after) = list_at(alloc, most, after);
-        form!(Operation { name, parameters, locals, body }; body = block_at(alloc, most, after))
+        after = symbol_at(after, Symbol::OpenBrace), dropping parameters;
+        (locals, after) = list_at(alloc, most, after), dropping parameters;
+        form!(
+            Operation { name, parameters, locals, body };
+            body = block_at(alloc, most, after), dropping parameters, locals
+        )
     )
 }
 

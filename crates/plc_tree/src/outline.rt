@@ -34,7 +34,10 @@ fn at_item_at<'a>(alloc: Global, most: usize, rest: Rest<'a>) -> Read<'a, Item<'
     in_turn!(
         (name, after) = name_at(rest);
         (others, after) = ended_list_at(alloc, most, after, Symbol::Colon);
-        form!(Item::At(name, others, clause); clause = clause_at(alloc, most, after))
+        form!(
+            Item::At(name, others, clause);
+            clause = clause_at(alloc, most, after), dropping others
+        )
     )
 }
 

@@ -2,7 +2,7 @@
 ghost use Rattle.plc_syntax.specs.Syntax.{kinds};
 ghost use Rattle.plc_syntax.specs.Views.{name_tree, condition_tree};
 ghost use Rattle.plc_syntax.specs.Answers.{Gives};
-ghost use Rattle.plc_tree.specs.Forms.{call_of, named_statement_of, atomic_of, ended_of, label_of, guard_of, step_of};
+ghost use Rattle.plc_tree.specs.Forms.{call_of, named_statement_of, atomic_of, label_of, guard_of, step_of};
 ghost use Rattle.plc_tree.specs.Views.{statement_tree};
 
 use crate::list::braced_list_at;
@@ -41,14 +41,6 @@ pub fn atomic_at<'a>(alloc: Global, most: usize, rest: Rest<'a>) -> Read<'a, Stm
     ensures { Gives statement_tree result (atomic_of most rest.entry.at (kinds rest.entry.tokens.now)) }
 {
     form!(Stmt::Atomic(primitives); primitives = braced_list_at(alloc, most, rest))
-}
-
-/// A statement and its semicolon, from after its word.
-pub fn ended_at<'a>(stmt: Stmt<'a>, rest: Rest<'a>) -> Read<'a, Stmt<'a>>
-    ensures { Gives statement_tree result
-        (ended_of (statement_tree stmt.entry) rest.entry.at (kinds rest.entry.tokens.now)) }
-{
-    in_turn!(after = symbol_at(rest, Symbol::Semicolon); Ok((stmt, after)))
 }
 
 /// A label, from after its word.
