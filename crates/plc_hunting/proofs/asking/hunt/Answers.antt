@@ -10,8 +10,8 @@ put_apart-requires g c =
     (g.F.Files.known c.args.files.now) (g.F.Files.known c.answer_to.new.files) c.in-Ok.ensures.due
 
 -- a text was made, and written as far as it went
-pub returns : goal.returns
-returns g c = record {
+pub returns-in-Ok : goal.returns-in-Ok
+returns-in-Ok g c = record {
   outcome =
       inr (record {
         status = c.in-Ok.hunted.status;
