@@ -95,12 +95,7 @@ fn none_met(alloc: Global) -> Result<Vec<u8>, AllocError>
 }
 
 /// The answer where a race was found, if the text shows one, else that none was met.
-fn answer_of(
-    alloc: Global,
-    races: bool,
-    text: Vec<u8>,
-    said: Vec<u8>,
-) -> Result<Hunted, AllocError>
+fn answer_of(alloc: Global, races: bool, text: Vec<u8>, said: Vec<u8>) -> Result<Hunted, AllocError>
     ensures found { IfOk result (λ h. IsTrue races → (h.status ≡ holds) × (h.text.items ≡ text.items)) }
     ensures nothing { IfOk result (λ h. races ≡ false → (h.status ≡ fails) × (h.text.items ≡ none_met)) }
 {
