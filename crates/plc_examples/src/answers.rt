@@ -33,7 +33,7 @@ fn first_line_of(text: &str) -> &str {
     ""
 }
 
-/// The status that words end with for `plc-hunt`; what it says beside the run is let go.
+/// The status that words end with for `plc-hunt`; what it says beside the run, or in place of an answer, is let go.
 fn hunt_status<F: Files>(alloc: Global, words: &[String], files: &mut F, out: &mut VecSink) -> u8 {
     let mut said = VecSink::new(alloc);
     let status = hunt(alloc, words, files, out, &mut said);

@@ -1,5 +1,5 @@
 //! The program `plc-hunt`: it hands the words, the real files, the real output and the standard error to `hunt`, and
-//! ends with its answer. It ends with 6 where memory runs out for the words, and with 7 where a word isn't UTF-8; then
+//! ends with its status. It ends with 6 where memory runs out for the words, and with 7 where a word isn't UTF-8; then
 //! nothing is written.
 #![tactic(auto)]
 

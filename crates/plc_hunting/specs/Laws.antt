@@ -1,15 +1,16 @@
 -- What no hunt answers: a race in a file whose program has none.
-use Rattle.std.specs.Prelude.{◌≡◌, ℕ, List, []}
+use Rattle.std.specs.Prelude.{◌≡◌, ℕ, List}
 use Rattle.plc_parse.specs.declared.unit.Unit.{Unit as FileUnit}
 use Rattle.plc_reclaim.specs.Meanings.{Meanings}
 use Rattle.plc_check.specs.Loading.{IsFileOf}
 use Rattle.plc_cli.specs.Headline.{IsProved}
 use Rattle.plc_cli.specs.Statuses.{fails}
 use Rattle.plc_hunting.specs.Racing.{IsHuntUnder, IsFreeHunt}
+use Rattle.plc_hunting.specs.Texts.{none_met}
 
--- nothing was found, and nothing is written
+-- nothing was found, and nothing else is written
 abbrev pub IsNothing : ℕ → List ℕ → Type 0
-IsNothing status text = (status ≡ fails) × (text ≡ [])
+IsNothing status text = (status ≡ fails) × (text ≡ none_met)
 
 -- where bytes spell a program that has a typing and whose outline holds, whatever frees
 pub record SafeFilesHaveNoHuntedRace : Type 0 where

@@ -1,5 +1,5 @@
 -- What is answered: a schedule that replays to a race, or a run that races.
-use Rattle.std.specs.Prelude.{◌≡◌, ◌⊎◌, ℕ, false, List, []}
+use Rattle.std.specs.Prelude.{◌≡◌, ◌⊎◌, ℕ, false, List}
 use Rattle.plc_moves.specs.declared.words.Move.{Move}
 use Rattle.plc_mem.specs.declared.cell.RaceKind.{RaceKind}
 use Rattle.plc_explore.specs.Racing.{IsRacingRun}
@@ -12,7 +12,7 @@ use Rattle.plc_check.specs.declared.judged.Judged.{Judged}
 use Rattle.plc_check.specs.Answered.{judged_of}
 use Rattle.plc_cli.specs.Files.{IsAnsweredFile}
 use Rattle.plc_cli.specs.Statuses.{holds, fails}
-use Rattle.plc_hunting.specs.Texts.{run_text}
+use Rattle.plc_hunting.specs.Texts.{none_met, run_text}
 
 -- ---- under a reclaimer
 
@@ -25,10 +25,10 @@ pub record IsRacingSchedule (j : Judged) (reclaimer : Meanings) (bytes : List �
   pub prim : ℕ
   pub comes : ComesTo j.flow j.observer reclaimer j.schemes schedule (ends.Race kind line prim)
 
--- a race was found, or none
+-- a race was found, or none was met
 abbrev pub IsHuntedBy : Meanings → Judged → ℕ → List ℕ → Type 0
 IsHuntedBy reclaimer j status text =
-    ((status ≡ holds) × IsRacingSchedule j reclaimer text) ⊎ ((status ≡ fails) × (text ≡ []))
+    ((status ≡ holds) × IsRacingSchedule j reclaimer text) ⊎ ((status ≡ fails) × (text ≡ none_met))
 
 -- what is answered to the bytes of a file under a reclaimer
 abbrev pub IsHuntUnder : Meanings → List ℕ → ℕ → List ℕ → Type 0
@@ -43,9 +43,9 @@ pub record TellsRacingRun (j : Judged) (text : List ℕ) : Type 0 where
   pub written : text ≡ run_text j.flow false threads moves
   pub races : IsRacingRun j.flow j.observer threads moves
 
--- a race was found, or none
+-- a race was found, or none was met
 abbrev pub IsHuntedFreely : Judged → ℕ → List ℕ → Type 0
-IsHuntedFreely j status text = ((status ≡ holds) × TellsRacingRun j text) ⊎ ((status ≡ fails) × (text ≡ []))
+IsHuntedFreely j status text = ((status ≡ holds) × TellsRacingRun j text) ⊎ ((status ≡ fails) × (text ≡ none_met))
 
 -- what is answered to the bytes of a file where any allowed free may come
 abbrev pub IsFreeHunt : List ℕ → ℕ → List ℕ → Type 0

@@ -37,3 +37,7 @@ moves_text flow ticks (move ∷ moves) = move_text flow ticks move ++ codes "\n"
 -- a run among so many threads
 abbrev pub run_text : Flow → Bool → ℕ → List Move → List ℕ
 run_text flow ticks threads moves = codes "threads " ++ decimal threads ++ codes "\n" ++ moves_text flow ticks moves
+
+-- where no race was met
+abbrev pub none_met : List ℕ
+none_met = codes "no race was met, which says nothing of other runs\n"

@@ -1,48 +1,26 @@
-// What the words ask for. A reclaimer is made twice, once for the runs that are drawn and once for the replay of the
-// schedule that is found; both are made in the call that hands them on, since no function may hand out a value of a
-// trait.
-ghost use Rattle.std.specs.Prelude.{◌≤◌, length};
+// One way through the program: words, read, hunt, write. A reclaimer is made twice, once for the runs that are drawn
+// and once for the replay of the schedule that is found; both are made in the call that hands them on, since no
+// function may hand out a value of a trait.
+ghost use Rattle.std.specs.Prelude.{◌≡◌, ◌≤◌, None, IfOk, length, map, string_bytes};
 ghost use Rattle.plc_base.specs.FileSizes.{largest_file};
+ghost use Rattle.plc_answers.specs.Refusals.{words_refused_text};
+ghost use Rattle.plc_cli.specs.Answer.{Ends};
+ghost use Rattle.plc_cli.specs.Reads.{FilesAreKept, IsDueForFile};
+ghost use Rattle.plc_cli.specs.Statuses.{bad_words, unread};
+ghost use Rattle.plc_hunting.specs.Program.{Hunts, IsDueFor, IsHunt, IsPut, outputs};
+ghost use Rattle.plc_hunting.specs.Racing.{IsHuntUnder};
+ghost use Rattle.plc_hunting.specs.Requests.{request_of};
+ghost use Rattle.plc_hunting.specs.Views.{freeing_view};
 
-use crate::hunting::{Hunted, hunt_freely, hunt_under};
+use crate::hunting::{Hunted, NOTHING, hunt_freely, hunt_under};
+use crate::words::{Freeing, Request, request_of};
 use plc_base::{LARGEST_FILE, NoMemory};
 use plc_cli::{
-    ByList, Content, Epoch, Files, Hazard, Leak, NO_MEMORY, Reclaimer, Sink, SinkFault, UNWRITTEN,
-    read, words_refusal, write_text,
+    Answer, ByList, Content, Epoch, Files, Hazard, Leak, NO_MEMORY, Reclaimer, Sink, SinkFault,
+    UNWRITTEN, read, words_refusal, write_text,
 };
 use plc_explore::Frees;
-use plc_sched::number_of;
 use std::alloc::Global;
-
-/// The seed where none is given.
-const SEED: u32 = 1;
-
-/// Who says what is freed.
-#[derive(Clone, Copy)]
-enum Freeing {
-    /// `leak`
-    Leak,
-    /// `list`
-    List,
-    /// `hazard`
-    Hazard,
-    /// `epoch`
-    Epoch,
-    /// `any`: whatever the observer allows may be freed.
-    Any,
-}
-
-/// What a word means, if it is one of the five.
-fn freeing_of(word: &str) -> Option<Freeing> {
-    match word {
-        "leak" => Some(Freeing::Leak),
-        "list" => Some(Freeing::List),
-        "hazard" => Some(Freeing::Hazard),
-        "epoch" => Some(Freeing::Epoch),
-        "any" => Some(Freeing::Any),
-        _ => None,
-    }
-}
 
 /// A hunt with these two values of a reclaimer.
 fn hunt_with(
@@ -53,6 +31,7 @@ fn hunt_with(
     mut judging: Box<dyn Reclaimer>,
 ) -> Result<Hunted, NoMemory>
     requires { length bytes.now ≤ largest_file }
+    ensures { IfOk result (λ h. IsHuntUnder (meanings judging) bytes.now h.status h.text.items) }
 {
     hunt_under(alloc, bytes, Frees::Picked(drawing), seed, &mut judging)
 }
@@ -70,6 +49,7 @@ macro_rules! hunt_with_two {
 /// The answer to the bytes of a file.
 fn hunt_bytes(alloc: Global, bytes: &[u8], freeing: Freeing, seed: u32) -> Result<Hunted, NoMemory>
     requires { length bytes.now ≤ largest_file }
+    ensures { IfOk result (λ h. IsHunt (freeing_view freeing) bytes.now h.status h.text.items) }
 {
     match freeing {
         Freeing::Leak => hunt_with_two!(Leak, alloc, bytes, seed),
@@ -80,82 +60,101 @@ fn hunt_bytes(alloc: Global, bytes: &[u8], freeing: Freeing, seed: u32) -> Resul
     }
 }
 
-/// The answer to words of no listed form.
-fn wrong_words(alloc: Global) -> Result<Hunted, NoMemory> {
-    let answer = words_refusal(alloc)?;
-    Ok(Hunted {
+/// What keeps from a hunt.
+fn kept_from(alloc: Global, answer: Answer) -> Hunted
+    ensures status { result.status ≡ answer.status }
+    ensures text { result.text.items ≡ answer.text.items }
+{
+    Hunted {
         status: answer.status,
         text: answer.text,
         said: Vec::new(alloc),
-    })
-}
-
-/// The answer to a file.
-fn hunt_file<F: Files>(
-    alloc: Global,
-    files: &mut F,
-    file: &str,
-    freeing: Freeing,
-    seed: u32,
-) -> Result<Hunted, NoMemory> {
-    match read(alloc, files, file, LARGEST_FILE)? {
-        Content::Read(bytes) => hunt_bytes(alloc, &bytes, freeing, seed),
-        Content::Unread(answer) => Ok(Hunted {
-            status: answer.status,
-            text: answer.text,
-            said: Vec::new(alloc),
-        }),
     }
 }
 
-/// The answer to a file with who frees and a seed, if they are such words.
-fn hunt_asked<F: Files>(
-    alloc: Global,
-    files: &mut F,
-    file: &str,
-    freeing: Option<Freeing>,
-    seed: Option<u32>,
-) -> Result<Hunted, NoMemory> {
-    match (freeing, seed) {
-        (Some(freeing), Some(seed)) => hunt_file(alloc, files, file, freeing, seed),
-        _ => wrong_words(alloc),
+/// The answer to words of no listed form.
+fn wrong_words(alloc: Global) -> Result<Hunted, NoMemory>
+    ensures { IfOk result (λ h. (h.status ≡ bad_words) × (h.text.items ≡ words_refused_text)) }
+{
+    Ok(kept_from(alloc, words_refusal(alloc)?))
+}
+
+/// The answer to a file.
+fn hunt_file<F: Files>(alloc: Global, files: &mut F, request: Request) -> Result<Hunted, NoMemory>
+    ensures kept { FilesAreKept (F.known files.old) (F.known files.new) }
+    ensures due { IfOk result (λ h. IsDueForFile (F.known files.old) (F.known files.new) request.entry.file.now
+        (λ bytes. IsHunt (freeing_view request.entry.freeing) bytes h.status h.text.items) h.status h.text.items) }
+{
+    match read(alloc, files, request.file, LARGEST_FILE)? {
+        Content::Read(bytes) => hunt_bytes(alloc, &bytes, request.freeing, request.seed),
+        Content::Unread(answer) => Ok(kept_from(alloc, answer)),
     }
 }
 
 /// The answer to the words.
-fn answer_to<F: Files>(alloc: Global, words: &[String], files: &mut F) -> Result<Hunted, NoMemory> {
-    match words {
-        [file, word] => {
-            let freeing = freeing_of(word.as_str());
-            hunt_asked(alloc, files, file.as_str(), freeing, Some(SEED))
-        }
-        [file, word, seed] => {
-            let freeing = freeing_of(word.as_str());
-            let seed = number_of(seed.as_bytes(), 0, u32::MAX);
-            hunt_asked(alloc, files, file.as_str(), freeing, seed)
-        }
-        _ => wrong_words(alloc),
+fn answer_to<F: Files>(alloc: Global, words: &[String], files: &mut F) -> Result<Hunted, NoMemory>
+    ensures kept { FilesAreKept (F.known files.old) (F.known files.new) }
+    ensures untouched { request_of (map string_bytes words.now) ≡ None → F.known files.new ≡ F.known files.old }
+    ensures due { IfOk result (λ h. IsDueFor (request_of (map string_bytes words.now))
+        (F.known files.old) (F.known files.new) h.status h.text.items) }
+{
+    match request_of(words) {
+        Some(request) => hunt_file(alloc, files, request),
+        None => wrong_words(alloc),
     }
 }
 
-/// All that the program does: the status, after the schedule was written to `out`, and what is said of its race to
-/// `said`. What can't be said changes no status.
+/// Says what is said beside an answer. What can't be said changes no status.
+fn say<T: Sink>(said: &mut T, hunted: &Hunted)
+    ensures { (T.known said.old).faults ≤ (T.known said.new).faults }
+{
+    let _ = write_text(said, &hunted.said);
+}
+
+/// The status, after the text was written.
+fn put<S: Sink>(out: &mut S, hunted: &Hunted) -> u8
+    requires { hunted.now.status ≤ unread }
+    ensures ends { Ends hunted.now.status hunted.now.text.items (S.known out.old) (S.known out.new) result }
+    ensures kept { (S.known out.old).faults ≤ (S.known out.new).faults }
+{
+    match write_text(out, &hunted.text) {
+        Ok(()) => hunted.status,
+        Err(SinkFault::Failed) => UNWRITTEN,
+        Err(SinkFault::Memory) => NO_MEMORY,
+    }
+}
+
+/// The status, after an answer was written, and what is said beside it, or what keeps from one.
+fn put_apart<S: Sink, T: Sink>(out: &mut S, said: &mut T, hunted: &Hunted) -> u8
+    requires { hunted.now.status ≤ unread }
+    ensures put { IsPut hunted.now.status hunted.now.text.items
+        (outputs (S.known out.old) (T.known said.old)) (outputs (S.known out.new) (T.known said.new)) result }
+    ensures kept { (S.known out.old).faults ≤ (S.known out.new).faults }
+    ensures said_kept { (T.known said.old).faults ≤ (T.known said.new).faults }
+{
+    if hunted.status > NOTHING {
+        return put(said, hunted);
+    }
+    say(said, hunted);
+    put(out, hunted)
+}
+
+/// All that the program does: the status, after the schedule or the run was written to `out`, or that no race was met.
+/// `words` are those after the program's name. What is said beside such an answer goes to `said`; what can't be said
+/// changes no status. Where the words are of no listed form, or the file can't be read or is refused, that is written
+/// to `said`, and nothing to `out`.
 pub fn hunt<F: Files, S: Sink, T: Sink>(
     alloc: Global,
     words: &[String],
     files: &mut F,
     out: &mut S,
     said: &mut T,
-) -> u8 {
+) -> u8
+    ensures { Hunts (request_of (map string_bytes words.now)) (F.known files.old) (F.known files.new)
+        (outputs (S.known out.old) (T.known said.old)) (outputs (S.known out.new) (T.known said.new)) result }
+{
     match answer_to(alloc, words, files) {
         Err(NoMemory) => NO_MEMORY,
-        Ok(hunted) => {
-            let _ = write_text(said, &hunted.said);
-            match write_text(out, &hunted.text) {
-                Ok(()) => hunted.status,
-                Err(SinkFault::Failed) => UNWRITTEN,
-                Err(SinkFault::Memory) => NO_MEMORY,
-            }
-        }
+        Ok(hunted) => put_apart(out, said, &hunted),
     }
 }

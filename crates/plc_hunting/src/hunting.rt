@@ -1,16 +1,16 @@
-// A hunt in the bytes of a file: a short run of its program that races (quarry.rt) is written, and followed once more
+// A hunt in the bytes of a file: a short run of its program that races (drawing.rt) is written, and followed once more
 // as it is written. The answer rests on that alone.
-ghost use Rattle.std.specs.Prelude.{◌≡◌, ◌≤◌, [], false, IfOk, IfSome, IsTrue, length};
+ghost use Rattle.std.specs.Prelude.{◌≡◌, ◌≤◌, false, IfOk, IfSome, IsTrue, length};
 ghost use Rattle.plc_base.specs.FileSizes.{largest_file};
 ghost use Rattle.plc_flow.specs.WellFormed.{FlowFits};
 ghost use Rattle.plc_cli.specs.Refusals.{load_fault_text};
 ghost use Rattle.plc_cli.specs.Statuses.{holds, fails, refused};
-ghost use Rattle.plc_hunting.specs.Texts.{run_text};
+ghost use Rattle.plc_hunting.specs.Texts.{none_met, run_text};
 ghost use Rattle.plc_hunting.specs.Trails.{TrailRaces};
 ghost use Rattle.plc_hunting.specs.Racing.{IsHuntedBy, IsHuntUnder, IsHuntedFreely, IsFreeHunt};
 
 use crate::account::push_account;
-use crate::quarry::{Quarry, hunt_judged};
+use crate::drawing::{HuntResult, hunt_judged};
 use crate::racing::{run_races, schedule_races};
 use crate::writing::run_text;
 use plc_answers::{push, push_number, push_numbered};
@@ -25,9 +25,9 @@ use std::alloc::{AllocError, Global};
 const FOUND: u8 = 0;
 
 /// Nothing was found.
-const NOTHING: u8 = 1;
+pub(crate) const NOTHING: u8 = 1;
 
-/// An answer: the status, the text that is asked for, and what is said beside it.
+/// A status, its text, and what is said beside it.
 #[derive(Drop)]
 pub struct Hunted {
     pub status: u8,
@@ -39,26 +39,23 @@ pub struct Hunted {
 fn said_of(
     alloc: Global,
     judged: &Judged,
-    quarry: &Quarry,
+    found: &HuntResult,
     races: bool,
 ) -> Result<Vec<u8>, AllocError> {
     let mut said = Vec::new(alloc);
-    match &quarry.account {
+    match &found.account {
         Some(account) if races => push_account(&mut said, &judged.flow.file, account)?,
-        _ if quarry.runs == 0 => push(
+        _ if found.runs == 0 => push(
             &mut said,
             "no run was drawn: the program has none, or no operation\n",
         )?,
-        _ => push(
-            &mut said,
-            "no race was met, which says nothing of other runs\n",
-        )?,
+        _ => {}
     }
-    push_numbered(&mut said, "seed ", quarry.seed)?;
+    push_numbered(&mut said, "seed ", found.seed)?;
     push(&mut said, ", runs ")?;
-    push_number(&mut said, quarry.runs)?;
+    push_number(&mut said, found.runs)?;
     push(&mut said, ", moves ")?;
-    push_number(&mut said, quarry.moves)?;
+    push_number(&mut said, found.moves)?;
     push(&mut said, "\n")?;
     Ok(said)
 }
@@ -85,24 +82,36 @@ fn text_of(
     }
 }
 
-/// The answer where a race was found, if the text shows one, else that none was.
-fn answer_of(alloc: Global, races: bool, text: Vec<u8>, said: Vec<u8>) -> Hunted
-    ensures found { IsTrue races → (result.status ≡ holds) × (result.text.items ≡ text.items) }
-    ensures nothing { races ≡ false → (result.status ≡ fails) × (result.text.items ≡ []) }
+/// The text where no race was met.
+fn none_met(alloc: Global) -> Result<Vec<u8>, AllocError>
+    ensures { IfOk result (λ text. text.items ≡ none_met) }
+{
+    let mut text = Vec::new(alloc);
+    push(
+        &mut text,
+        "no race was met, which says nothing of other runs\n",
+    )?;
+    Ok(text)
+}
+
+/// The answer where a race was found, if the text shows one, else that none was met.
+fn answer_of(alloc: Global, races: bool, text: Vec<u8>, said: Vec<u8>) -> Result<Hunted, AllocError>
+    ensures found { IfOk result (λ h. IsTrue races → (h.status ≡ holds) × (h.text.items ≡ text.items)) }
+    ensures nothing { IfOk result (λ h. races ≡ false → (h.status ≡ fails) × (h.text.items ≡ none_met)) }
 {
     if races {
-        Hunted {
+        return Ok(Hunted {
             status: FOUND,
             text,
             said,
-        }
-    } else {
-        Hunted {
-            status: NOTHING,
-            text: Vec::new(alloc),
-            said,
-        }
+        });
     }
+    let text = none_met(alloc)?;
+    Ok(Hunted {
+        status: NOTHING,
+        text,
+        said,
+    })
 }
 
 /// The answer for a file that was loaded, under a reclaimer.
@@ -116,11 +125,12 @@ fn hunted_by(
     requires fits { FlowFits judged.now.flow }
     ensures { IfOk result (λ h. IsHuntedBy (meanings reclaimer.old) judged.now h.status h.text.items) }
 {
-    let quarry = hunt_judged(alloc, judged, frees, seed)?;
-    let text = text_of(alloc, judged, true, &quarry.trail)?;
+    let found = hunt_judged(alloc, judged, frees, seed)?;
+    let text = text_of(alloc, judged, true, &found.trail)?;
     let races = schedule_races(alloc, judged, &text, reclaimer)?;
-    let said = said_of(alloc, judged, &quarry, races)?;
-    Ok(answer_of(alloc, races, text, said))
+    let said = said_of(alloc, judged, &found, races)?;
+    let hunted = answer_of(alloc, races, text, said)?;
+    Ok(hunted)
 }
 
 /// The same, which ends the file.
@@ -190,11 +200,12 @@ fn hunted_freely(alloc: Global, judged: &Judged, seed: u32) -> Result<Hunted, No
     requires fits { FlowFits judged.now.flow }
     ensures { IfOk result (λ h. IsHuntedFreely judged.now h.status h.text.items) }
 {
-    let quarry = hunt_judged(alloc, judged, Frees::Any, seed)?;
-    let text = text_of(alloc, judged, false, &quarry.trail)?;
-    let races = trail_races(alloc, judged, &quarry.trail)?;
-    let said = said_of(alloc, judged, &quarry, races)?;
-    Ok(answer_of(alloc, races, text, said))
+    let found = hunt_judged(alloc, judged, Frees::Any, seed)?;
+    let text = text_of(alloc, judged, false, &found.trail)?;
+    let races = trail_races(alloc, judged, &found.trail)?;
+    let said = said_of(alloc, judged, &found, races)?;
+    let hunted = answer_of(alloc, races, text, said)?;
+    Ok(hunted)
 }
 
 /// The same, which ends the file.

@@ -16,7 +16,7 @@ const MOST_MOVES: u64 = 40_000_000;
 
 /// A run that was found, if one was, what is known of its race, and how much was tried.
 #[derive(Drop)]
-pub(crate) struct Quarry {
+pub(crate) struct HuntResult {
     /// The moves of the run that races, if one was found.
     pub trail: Option<Trail>,
     /// What can be said of its race.
@@ -52,13 +52,13 @@ fn hunt_program(
     program: &Program,
     frees: &mut Frees,
     seed: u32,
-) -> Result<Quarry, NoMemory>
+) -> Result<HuntResult, NoMemory>
     requires { IsIndexed program.now }
 {
     let mut random = Random::new(u64::from(seed));
     let explored = explore(alloc, program, frees, &mut random, MOST_MOVES)?;
     let (trail, account) = shortened(alloc, program, frees, explored.trail)?;
-    Ok(Quarry {
+    Ok(HuntResult {
         trail,
         account,
         seed,
@@ -73,7 +73,7 @@ pub(crate) fn hunt_judged(
     judged: &Judged,
     mut frees: Frees,
     seed: u32,
-) -> Result<Quarry, NoMemory>
+) -> Result<HuntResult, NoMemory>
     requires fits { FlowFits judged.now.flow }
 {
     let steps = StepsByPoint::of_flow(alloc, &judged.flow)?;
