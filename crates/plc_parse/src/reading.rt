@@ -38,11 +38,7 @@ pub fn parse(alloc: Global, tokens: &[Token]) -> Result<Unit, ParseFault>
     ensures outline { IfOk result (λ unit. OutlineFits unit.file unit.outline) }
 {
     match file_tree(alloc, tokens) {
-        Ok(form) => {
-            let unit = file_unit(alloc, tokens, &form);
-            drop(form);
-            unit
-        }
+        Ok(form) => file_unit(alloc, tokens, &form),
         Err(SyntaxFault::Syntax { at }) => Err(ParseFault::Syntax { at }),
         Err(SyntaxFault::Nesting { .. }) => Err(ParseFault::past(What1::Nesting)),
         Err(SyntaxFault::Memory) => Err(ParseFault::Memory),
