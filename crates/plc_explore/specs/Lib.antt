@@ -7,3 +7,4 @@ pub mod Walking
 pub mod Drawing
 pub mod Following
 pub mod Shortening
+pub mod Leaving
