@@ -1,5 +1,5 @@
 -- What is left of a run without the moves that one maker makes in a row of them, and runs in which all are needed.
-use Rattle.std.specs.Prelude.{◌≡◌, ◌-◌, ◌<◌, ◌≤◌, ℕ, Bool, true, false, not, ◌==◌, List, ◌++◌, filter}
+use Rattle.std.specs.Prelude.{◌≡◌, ◌-◌, ◌<◌, ◌≤◌, ℕ, Bool, true, false, not, ◌==◌, if◌then◌else◌, List, ◌++◌, filter}
 use Rattle.std.specs.Prelude.{length, Option, Some, None, slice_get, take, drop}
 use Rattle.plc_moves.specs.declared.words.Move.{Move}
 use Rattle.plc_moves.specs.declared.words.Move.TheVariants.{Start, Step as Take, Return, Free}
@@ -31,13 +31,20 @@ others by moves = filter (λ move. not (made_by by move)) moves
 abbrev pub without : Option ℕ → ℕ → ℕ → List Move → List Move
 without by from to moves = take from moves ++ others by (take (to - from) (drop from moves)) ++ drop to moves
 
--- where a maker's moves are from one of them on up to another, or to the end, they are needed: the others don't race
+-- the maker of a move, if the other, where there is one, is of the same
+abbrev pub common_maker : Option Move → Option Move → Option (Option ℕ)
+common_maker None next = None
+common_maker (Some first) None = Some (maker_of first)
+common_maker (Some first) (Some next) =
+    if made_by (maker_of first) next then Some (maker_of first) else None
+
+-- the moves of one maker, from one of them on up to another or to the end, are needed: the others are no run that races
 abbrev pub IsNeeded : Program → ℕ → List Move → ℕ → ℕ → Type 0
 IsNeeded program threads moves from to =
-    (first : Move) → slice_get moves from ≡ Some first
-    → ((next : Move) → slice_get moves to ≡ Some next → made_by (maker_of first) next ≡ true)
-    → RacesAmong program threads (without (maker_of first) from to moves) → ⊥
+    (by : Option ℕ) → common_maker (slice_get moves from) (slice_get moves to) ≡ Some by
+    → RacesAmong program threads (without by from to moves) → ⊥
 
+-- of no thread can the moves from one of them on up to another, or to the end, be left out; nor can frees so
 abbrev pub EachIsNeeded : Program → ℕ → List Move → Type 0
 EachIsNeeded program threads moves =
     (from to : ℕ) → from < to → to ≤ length moves → IsNeeded program threads moves from to

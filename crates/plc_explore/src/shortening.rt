@@ -2,11 +2,13 @@
 // of one thread between two moments at which it stands at the same point, or from one moment on; so a whole operation,
 // a turn of a loop, and all that a thread does are among them. The longest are tried first. Each attempt is followed
 // from the beginning (delta debugging, Zeller 1999), and what was made on the way, up to the race, is what is left: the
-// run that is answered was made itself, and nothing rests on what was left out. At last the threads are numbered in the
-// order in which they move first, and that is followed, too.
-ghost use Rattle.std.specs.Prelude.{◌≡◌, ◌⊎◌, ◌≤◌, ◌<◌, ◌+◌, ◌++◌, ℕ, IfOk, IfSome, None, OnOk, length};
+// run that is answered was made itself, and nothing rests on what was left out. Then the threads are numbered in the
+// order in which they move first, and that is followed, too. At last all parts of one thread are tried, wherever it
+// stands, until none can be left out: too many for a long run, but few for what is left by then, and all that the
+// contract speaks of.
+ghost use Rattle.std.specs.Prelude.{◌≡◌, ◌⊎◌, ◌≤◌, ◌<◌, ◌+◌, ◌++◌, ℕ, IfOk, IfSome, None, OnOk, length, slice_get};
 ghost use Rattle.plc_explore.specs.Following.{IsAny};
-ghost use Rattle.plc_explore.specs.Leaving.{EachIsNeeded, IsNeeded, made_by, others, without};
+ghost use Rattle.plc_explore.specs.Leaving.{EachIsNeeded, IsNeeded, common_maker, made_by, others, without};
 ghost use Rattle.plc_explore.specs.Racing.{RacesAmong};
 ghost use Rattle.plc_explore.specs.Running.{MayRun};
 ghost use Rattle.plc_explore.specs.Shortening.{IsLeft};
@@ -30,7 +32,8 @@ struct Cut {
 
 /// Adds the same moves.
 fn push_all(alloc: Global, left: &mut Items<Move>, moves: &[Move]) -> Result<(), NoMemory>
-    ensures { OnOk result (left.new ≡ left.old ++ moves.now) }
+    ensures exact { OnOk result (left.new ≡ left.old ++ moves.now) }
+    ensures no_more { OnOk result (length left.new ≤ length left.old + length moves.now) }
 {
     for m in moves {
         left.push(same_move(alloc, m)?)?;
@@ -345,6 +348,17 @@ fn in_order(
     }
 }
 
+/// The maker of the move with the first number, if that with the second, where there is one, is of the same.
+fn maker_between(moves: &[Move], from: usize, to: usize) -> Option<Option<u32>>
+    ensures { result ≡ common_maker (slice_get moves.now from) (slice_get moves.now to) }
+{
+    let by = mover(moves.get(from)?);
+    match moves.get(to) {
+        Some(next) if !is_by(next, by) => None,
+        _ => Some(by),
+    }
+}
+
 /// What is left without the moves of one maker from one number on up to another, if that races.
 fn leave_span(
     alloc: Global,
@@ -362,15 +376,9 @@ fn leave_span(
     ensures none { IsAny frees.old → from < to → to ≤ length run.now.moves
         → IfOk result (λ left. left ≡ None → IsNeeded program.now run.now.threads run.now.moves from to) }
 {
-    let Some(first) = run.moves.as_slice().get(from) else {
+    let Some(by) = maker_between(run.moves.as_slice(), from, to) else {
         return Ok(None);
     };
-    let by = mover(first);
-    if let Some(next) = run.moves.as_slice().get(to) {
-        if !is_by(next, by) {
-            return Ok(None);
-        }
-    }
     tries_without(alloc, program, frees, run, Cut { by, from, to })
 }
 

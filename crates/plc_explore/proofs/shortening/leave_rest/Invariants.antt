@@ -6,6 +6,6 @@ use Rattle.plc_explore.proofs.shortening.leave_rest.Given as goal
 abbrev pub invariant-loop : goal.invariant-loop
 invariant-loop g l = record {
   races : RacesAmong l.program l.run.threads l.run.moves;
-  fewer : length l.run.moves + l.index ≤ length l.fn.run.moves;
+  fewer : length l.run.moves + l.counter ≤ length l.fn.run.moves;
   any : IsAny l.fn.frees → IsAny l.frees;
 }
