@@ -1,16 +1,13 @@
 -- No race is missed by what came of a move.
-use Rattle.std.proofs.Common.{◌≡◌, ◌⊎◌, ℕ, false, List, ◌∷◌, refl, sym, ap, subst, ◌∙◌, inl, inr}
+use Rattle.std.proofs.Common.{◌≡◌, ℕ, false, List, ◌∷◌, sym, ap, subst, ◌∙◌, inl, inr}
 use Rattle.plc_moves.specs.declared.words.Move.{Move}
 use Rattle.plc_moves.specs.declared.words.Move.TheVariants.{Start, Step as Take, Return, Free}
-use Rattle.plc_mem.specs.declared.cell.RaceKind.{RaceKind}
 use Rattle.plc_run.specs.Run.{Configuration, Moves}
 use Rattle.plc_run.specs.Position.{Position, threads_of, Answers, HasNone, IsForbidden}
-use Rattle.plc_run.specs.declared.moved.Moved.{Moved}
 use Rattle.plc_run.specs.declared.moved.Moved.TheVariants as moved
 use Rattle.plc_run.proofs.Runs.{run_laws}
 use Rattle.plc_explore.specs.declared.program.Program.{Program}
-use Rattle.plc_explore.specs.declared.follow.Met.{Met}
-use Rattle.plc_explore.specs.declared.follow.Met.TheVariants.{Goes, Races, None}
+use Rattle.plc_explore.specs.declared.follow.Met.TheVariants.{Goes, None}
 use Rattle.plc_explore.specs.Racing.{LeadsToRace}
 use Rattle.plc_explore.specs.Following.{FollowsOn, RacesFrom}
 

@@ -1,9 +1,9 @@
 -- Without the moves of one maker, from one of them on, there are fewer.
 use Rattle.std.proofs.Common.{◌≡◌, ◌≤◌, ◌<◌, ◌-◌, ℕ, zero, suc, Bool, true, false, not, cond, List, [], ◌∷◌, ◌++◌, length, take, drop, filter, slice_get, Option, Some, None, refl, sym, ap, subst, ◌∙◌, arith}
 use Rattle.std.proofs.lemmas.Cmp.{nat_eq_equiv}
-use Rattle.std.specs.Prelude.{◌==◌, if◌then◌else◌, IfOk, IfSome, Result, Ok, Err}
+use Rattle.std.specs.Prelude.{if◌then◌else◌, IfOk, IfSome, Result, Ok, Err}
 use Rattle.plc_moves.specs.declared.words.Move.{Move}
-use Rattle.plc_explore.specs.Leaving.{maker_of, common_maker, same_maker, made_by, others, without}
+use Rattle.plc_explore.specs.Leaving.{maker_of, common_maker, same_maker, made_by, without}
 use Rattle.plc_explore.specs.declared.follow.Followed.{Followed}
 use Rattle.plc_explore.specs.declared.program.Program.{Program}
 use Rattle.plc_explore.specs.Racing.{RacesAmong}

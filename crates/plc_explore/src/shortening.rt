@@ -488,7 +488,9 @@ fn shorten_followed(
 
 /// Makes a run that races short. It is followed first: where that doesn't come to a race, since a reclaimer then frees
 /// other addresses, the run is answered as it was given. So what is answered races where the given run does, as each
-/// does that `explore` finds. The one error is that memory runs out.
+/// does that `explore` finds. Where nobody says what is freed and the answer races, no thread's moves from one of them
+/// on up to another, or to the end, can be left out so that the others still race. The one error is that memory runs
+/// out.
 pub fn shorten(
     alloc: Global,
     program: &Program,

@@ -1,4 +1,4 @@
-use Rattle.std.proofs.Common.{ℕ, ◌<◌, ◌≤◌, length}
+use Rattle.std.proofs.Common.{ℕ, ◌<◌, ◌≤◌}
 use Rattle.plc_explore.specs.Following.{IsAny}
 use Rattle.plc_explore.specs.Leaving.{IsNeeded}
 use Rattle.plc_explore.proofs.shortening.leave_from.Given as goal

@@ -1,4 +1,4 @@
-use Rattle.std.proofs.Common.{◌≡◌, ℕ, length, slice_get, Option, Some, None, subst, sym, ◌∙◌, arith}
+use Rattle.std.proofs.Common.{◌≡◌, ℕ, length, slice_get, Option, Some, subst, sym, ◌∙◌, arith}
 use Rattle.plc_explore.specs.Leaving.{IsNeeded, common_maker, without}
 use Rattle.plc_explore.specs.Racing.{RacesAmong}
 use Rattle.plc_explore.proofs.Omitting.{fewer_than_before, needed_so, shorter_still}
