@@ -1,1 +1,3 @@
 mod Leading
+mod Missing
+mod Omitting

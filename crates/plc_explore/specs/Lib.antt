@@ -2,8 +2,9 @@
 pub mod Running
 -- what contracts of public calls say
 pub mod Racing
+pub mod Leaving
+pub mod Following
 -- words of private functions alone
 pub mod Walking
 pub mod Drawing
-pub mod Following
 pub mod Shortening

@@ -1,15 +1,16 @@
 // Moves are made again, from where runs begin, up to a race. What was made is kept beside where its threads stood, so
 // that a run that is answered is always one that was made itself, move by move.
-ghost use Rattle.std.specs.Prelude.{◌≡◌, ◌≤◌, ◌<◌, ◌+◌, ◌++◌, ◌∷◌, [], IfOk, IfSome, IsTrue, OnOk, length};
+ghost use Rattle.std.specs.Prelude.{◌≡◌, ◌≤◌, ◌<◌, ◌+◌, ◌++◌, ◌∷◌, [], false, IfOk, IfSome, IsTrue, None, OnOk, length};
+ghost use Rattle.plc_moves.specs.declared.words.Move.TheVariants.{Free};
 ghost use Rattle.plc_run.specs.Position.{threads_of};
 ghost use Rattle.plc_explore.specs.Racing.{RacesAmong};
 ghost use Rattle.plc_explore.specs.Running.{IsRunOf, MayRun};
 ghost use Rattle.plc_explore.specs.Walking.{IsRaceOf, IsWalked};
-ghost use Rattle.plc_explore.specs.Following.{IsMet};
+ghost use Rattle.plc_explore.specs.Following.{FollowsOn, IsAny, IsMet, RacesFrom};
 
 use crate::frees::Frees;
 use crate::program::Program;
-use crate::running::{Running, mover};
+use crate::running::{begin, make, mover};
 use plc_base::{Items, NoMemory};
 use plc_moves::Move;
 use plc_run::{Config, Moved};
@@ -107,16 +108,25 @@ impl Made {
     }
 
     /// Makes a move, if there is one now, and keeps it.
-    fn make(&mut self, program: &Program, run: &mut Running, m: Move) -> Result<Met, NoMemory>
-        requires of_run { IsRunOf program.now run.old.config }
-        requires walked { IsWalked program.now self.old.moves run.old.config }
-        ensures of_run { IsRunOf program.now run.new.config }
-        ensures many { threads_of run.new.config ≡ threads_of run.old.config }
-        ensures met { IfOk result (λ met. IsMet program.now met self.new.moves run.new.config) }
+    fn make(
+        &mut self,
+        program: &Program,
+        config: &mut Config,
+        frees: &mut Frees,
+        m: Move,
+    ) -> Result<Met, NoMemory>
+        requires of_run { IsRunOf program.now config.old }
+        requires walked { IsWalked program.now self.old.moves config.old }
+        ensures of_run { IsRunOf program.now config.new }
+        ensures many { threads_of config.new ≡ threads_of config.old }
+        ensures met { IfOk result (λ met. IsMet program.now met self.new.moves config.new) }
         ensures one_more { IfOk result (λ met. length self.new.moves ≤ length self.old.moves + 1) }
+        ensures any { IsAny frees.old → IsAny frees.new }
+        ensures follows { config.old.ended ≡ false → IfOk result (λ met.
+            FollowsOn program.now config.old m met config.new) }
     {
-        let stand = stand_of(&run.config, self.moves.len(), &m);
-        match run.make(program, &m) {
+        let stand = stand_of(config, self.moves.len(), &m);
+        match make(config, frees, program, &m) {
             Ok(Moved::Done) => {
                 self.keep(m, stand)?;
                 Ok(Met::Goes)
@@ -131,15 +141,24 @@ impl Made {
     }
 
     /// Frees an address; where it may not be freed now, nothing happens.
-    fn free(&mut self, program: &Program, run: &mut Running, a: u32) -> Result<Met, NoMemory>
-        requires of_run { IsRunOf program.now run.old.config }
-        requires walked { IsWalked program.now self.old.moves run.old.config }
-        ensures of_run { IsRunOf program.now run.new.config }
-        ensures many { threads_of run.new.config ≡ threads_of run.old.config }
-        ensures met { IfOk result (λ met. IsMet program.now met self.new.moves run.new.config) }
+    fn free(
+        &mut self,
+        program: &Program,
+        config: &mut Config,
+        frees: &mut Frees,
+        a: u32,
+    ) -> Result<Met, NoMemory>
+        requires of_run { IsRunOf program.now config.old }
+        requires walked { IsWalked program.now self.old.moves config.old }
+        ensures of_run { IsRunOf program.now config.new }
+        ensures many { threads_of config.new ≡ threads_of config.old }
+        ensures met { IfOk result (λ met. IsMet program.now met self.new.moves config.new) }
         ensures one_more { IfOk result (λ met. length self.new.moves ≤ length self.old.moves + 1) }
+        ensures any { IsAny frees.old → IsAny frees.new }
+        ensures follows { config.old.ended ≡ false → IfOk result (λ met.
+            FollowsOn program.now config.old (Free a) met config.new) }
     {
-        match self.make(program, run, Move::Free { a }) {
+        match self.make(program, config, frees, Move::Free { a }) {
             Ok(Met::None) => Ok(Met::Goes),
             made => made,
         }
@@ -151,24 +170,28 @@ impl Made {
         &mut self,
         alloc: Global,
         program: &Program,
-        run: &mut Running,
+        config: &mut Config,
+        frees: &mut Frees,
         m: &Move,
     ) -> Result<Met, NoMemory>
-        requires of_run { IsRunOf program.now run.old.config }
-        requires walked { IsWalked program.now self.old.moves run.old.config }
-        ensures of_run { IsRunOf program.now run.new.config }
-        ensures many { threads_of run.new.config ≡ threads_of run.old.config }
-        ensures met { IfOk result (λ met. IsMet program.now met self.new.moves run.new.config) }
+        requires of_run { IsRunOf program.now config.old }
+        requires walked { IsWalked program.now self.old.moves config.old }
+        ensures of_run { IsRunOf program.now config.new }
+        ensures many { threads_of config.new ≡ threads_of config.old }
+        ensures met { IfOk result (λ met. IsMet program.now met self.new.moves config.new) }
         ensures one_more { IfOk result (λ met. length self.new.moves ≤ length self.old.moves + 1) }
+        ensures any { IsAny frees.old → IsAny frees.new }
+        ensures follows { IsAny frees.old → config.old.ended ≡ false → IfOk result (λ met.
+            FollowsOn program.now config.old m.now met config.new) }
     {
         if let Move::Free { a } = m {
-            return match run.frees.again(*a) {
-                Some(a) => self.free(program, run, a),
+            return match frees.again(*a) {
+                Some(a) => self.free(program, config, frees, a),
                 None => Ok(Met::Goes),
             };
         }
         let m = same_move(alloc, m)?;
-        self.make(program, run, m)
+        self.make(program, config, frees, m)
     }
 
     /// Makes recorded moves again, up to the first race, and answers whether there is one.
@@ -176,18 +199,22 @@ impl Made {
         &mut self,
         alloc: Global,
         program: &Program,
-        run: &mut Running,
+        config: &mut Config,
+        frees: &mut Frees,
         moves: &[Move],
     ) -> Result<bool, NoMemory>
-        requires of_run { IsRunOf program.now run.old.config }
-        requires walked { IsWalked program.now self.old.moves run.old.config }
+        requires of_run { IsRunOf program.now config.old }
+        requires walked { IsWalked program.now self.old.moves config.old }
         requires none { self.old.moves ≡ [] }
-        ensures many { threads_of run.new.config ≡ threads_of run.old.config }
-        ensures races { IfOk result (λ races. IsTrue races → IsRaceOf program.now run.new.config self.new.moves) }
+        ensures many { threads_of config.new ≡ threads_of config.old }
+        ensures races { IfOk result (λ races. IsTrue races → IsRaceOf program.now config.new self.new.moves) }
         ensures no_longer { IfOk result (λ races. length self.new.moves ≤ length moves.now) }
+        ensures any { IsAny frees.old → IsAny frees.new }
+        ensures none { IsAny frees.old → config.old.ended ≡ false → IfOk result (λ races. races ≡ false
+            → RacesFrom program.now config.old moves.now → ⊥) }
     {
         for m in moves {
-            match self.make_again(alloc, program, run, m) {
+            match self.make_again(alloc, program, config, frees, m) {
                 Ok(Met::Goes) => {}
                 Ok(Met::Races) => return Ok(true),
                 Ok(Met::None) => return Ok(false),
@@ -202,21 +229,24 @@ impl Made {
 fn make_and_end(
     alloc: Global,
     program: &Program,
-    mut run: Running,
+    mut config: Config,
+    frees: &mut Frees,
     moves: &[Move],
 ) -> Result<Option<Made>, NoMemory>
-    requires of_run { IsRunOf program.now run.config }
-    requires begins { IsWalked program.now [] run.config }
+    requires of_run { IsRunOf program.now config }
+    requires begins { IsWalked program.now [] config }
     ensures races { IfOk result (λ found. IfSome found (λ made.
-        RacesAmong program.now (threads_of run.entry.config) made.moves)) }
+        RacesAmong program.now (threads_of config) made.moves)) }
     ensures no_longer { IfOk result (λ found. IfSome found (λ made. length made.moves ≤ length moves.now)) }
+    ensures any { IsAny frees.old → IsAny frees.new }
+    ensures none { IsAny frees.old → config.ended ≡ false → IfOk result (λ found. found ≡ None
+        → RacesFrom program.now config moves.now → ⊥) }
 {
     let mut made = Made {
         moves: Items::new(alloc),
         stands: Vec::new(alloc),
     };
-    let races = made.make_all(alloc, program, &mut run, moves);
-    drop(run);
+    let races = made.make_all(alloc, program, &mut config, frees, moves);
     match races {
         Ok(true) => Ok(Some(made)),
         Ok(false) => Ok(None),
@@ -236,9 +266,12 @@ fn make_from_beginning(
     requires some { 0 < threads }
     ensures races { IfOk result (λ found. IfSome found (λ made. RacesAmong program.now threads made.moves)) }
     ensures no_longer { IfOk result (λ found. IfSome found (λ made. length made.moves ≤ length moves.now)) }
+    ensures any { IsAny frees.old → IsAny frees.new }
+    ensures none { IsAny frees.old → IfOk result (λ found. found ≡ None
+        → RacesAmong program.now threads moves.now → ⊥) }
 {
-    match Running::begin(alloc, program, frees, threads) {
-        Ok(Some(run)) => make_and_end(alloc, program, run, moves),
+    match begin(alloc, program, frees, threads) {
+        Ok(Some(config)) => make_and_end(alloc, program, config, frees, moves),
         Ok(None) => Ok(None),
         Err(fault) => Err(fault),
     }
@@ -256,6 +289,9 @@ pub fn follow(
     requires { MayRun program.now }
     ensures races { IfOk result (λ found. IfSome found (λ run. RacesAmong program.now run.threads run.moves)) }
     ensures no_longer { IfOk result (λ found. IfSome found (λ run. length run.moves ≤ length moves.now)) }
+    ensures any { IsAny frees.old → IsAny frees.new }
+    ensures none { IsAny frees.old → IfOk result (λ found. found ≡ None
+        → RacesAmong program.now threads moves.now → ⊥) }
 {
     let threads = threads.max(1);
     match make_from_beginning(alloc, program, frees, threads, moves) {

@@ -1,5 +1,8 @@
 // Which addresses are freed, and when. A reclaimer that is asked frees what it picks, as early as it picks it. Without
 // one any free may come that the observer allows, so the retired addresses are drawn.
+ghost use Rattle.std.specs.Prelude.{◌≡◌, Some};
+ghost use Rattle.plc_explore.specs.Following.{IsAny};
+
 use crate::random::Random;
 use plc_auto::{Event, Scheme};
 use plc_base::NoMemory;
@@ -16,7 +19,9 @@ pub enum Frees {
 
 impl Frees {
     /// A run begins.
-    pub fn begin(&mut self, schemes: &[Scheme]) -> Result<(), NoMemory> {
+    pub fn begin(&mut self, schemes: &[Scheme]) -> Result<(), NoMemory>
+        ensures { IsAny self.old → IsAny self.new }
+    {
         match self {
             Frees::Picked(reclaimer) => reclaimer.begin(schemes),
             Frees::Any => Ok(()),
@@ -24,7 +29,9 @@ impl Frees {
     }
 
     /// An event happened.
-    pub fn hear(&mut self, event: &Event) -> Result<(), NoMemory> {
+    pub fn hear(&mut self, event: &Event) -> Result<(), NoMemory>
+        ensures { IsAny self.old → IsAny self.new }
+    {
         match self {
             Frees::Picked(reclaimer) => reclaimer.event(*event),
             Frees::Any => Ok(()),
@@ -32,7 +39,10 @@ impl Frees {
     }
 
     /// The address that is to be freed where a recorded run frees `a`.
-    pub fn again(&mut self, a: u32) -> Option<u32> {
+    pub fn again(&mut self, a: u32) -> Option<u32>
+        ensures any { IsAny self.old → IsAny self.new }
+        ensures the_same { IsAny self.old → result ≡ Some a }
+    {
         match self {
             Frees::Picked(reclaimer) => reclaimer.pick(),
             Frees::Any => Some(a),

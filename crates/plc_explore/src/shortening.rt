@@ -2,9 +2,13 @@
 // of one thread between two moments at which it stands at the same point, or from one moment on; so a whole operation,
 // a turn of a loop, and all that a thread does are among them. The longest are tried first. Each attempt is followed
 // from the beginning (delta debugging, Zeller 1999), and what was made on the way, up to the race, is what is left: the
-// run that is answered was made itself, and nothing rests on what was left out. At last the threads are numbered in the
-// order in which they move first, and that is followed, too.
-ghost use Rattle.std.specs.Prelude.{◌≡◌, ◌⊎◌, ◌≤◌, ◌+◌, IfOk, OnOk, length};
+// run that is answered was made itself, and nothing rests on what was left out. Then the threads are numbered in the
+// order in which they move first, and that is followed, too. At last all parts of one thread are tried, wherever it
+// stands, until none can be left out: too many for a long run, but few for what is left by then, and all that the
+// contract speaks of.
+ghost use Rattle.std.specs.Prelude.{◌≡◌, ◌⊎◌, ◌≤◌, ◌<◌, ◌+◌, ◌++◌, ℕ, IfOk, IfSome, None, OnOk, length, slice_get};
+ghost use Rattle.plc_explore.specs.Following.{IsAny};
+ghost use Rattle.plc_explore.specs.Leaving.{EachIsNeeded, IsNeeded, common_maker, made_by, others, without};
 ghost use Rattle.plc_explore.specs.Racing.{RacesAmong};
 ghost use Rattle.plc_explore.specs.Running.{MayRun};
 ghost use Rattle.plc_explore.specs.Shortening.{IsLeft};
@@ -28,12 +32,24 @@ struct Cut {
 
 /// Adds the same moves.
 fn push_all(alloc: Global, left: &mut Items<Move>, moves: &[Move]) -> Result<(), NoMemory>
-    ensures { OnOk result (length left.new ≤ length left.old + length moves.now) }
+    ensures exact { OnOk result (left.new ≡ left.old ++ moves.now) }
+    ensures no_more { OnOk result (length left.new ≤ length left.old + length moves.now) }
 {
     for m in moves {
         left.push(same_move(alloc, m)?)?;
     }
     Ok(())
+}
+
+/// Whether a move is one of a thread, or a free.
+fn is_by(m: &Move, by: Option<u32>) -> bool
+    ensures { result ≡ made_by by m.now }
+{
+    match (mover(m), by) {
+        (Some(t), Some(thread)) => t == thread,
+        (None, None) => true,
+        _ => false,
+    }
 }
 
 /// Adds the same moves, but those of one thread, or the frees.
@@ -43,10 +59,11 @@ fn push_others(
     moves: &[Move],
     by: Option<u32>,
 ) -> Result<(), NoMemory>
-    ensures { OnOk result (length left.new ≤ length left.old + length moves.now) }
+    ensures exact { OnOk result (left.new ≡ left.old ++ others by moves.now) }
+    ensures no_more { OnOk result (length left.new ≤ length left.old + length moves.now) }
 {
     for m in moves {
-        if mover(m) != by {
+        if !is_by(m, by) {
             left.push(same_move(alloc, m)?)?;
         }
     }
@@ -55,7 +72,9 @@ fn push_others(
 
 /// The moves without those that are left out.
 fn without(alloc: Global, moves: &[Move], cut: Cut) -> Result<Items<Move>, NoMemory>
-    ensures { IfOk result (λ left. length left ≤ length moves.now) }
+    ensures no_longer { IfOk result (λ left. length left ≤ length moves.now) }
+    ensures exact { cut.from ≤ cut.to → cut.to ≤ length moves.now
+        → IfOk result (λ left. left ≡ without cut.by cut.from cut.to moves.now) }
 {
     let to = cut.to.min(moves.len());
     let from = cut.from.min(to);
@@ -75,7 +94,13 @@ fn tries_without(
     cut: Cut,
 ) -> Result<Option<Followed>, NoMemory>
     requires { MayRun program.now }
-    ensures { IfOk result (IsLeft program.now (length run.now.moves)) }
+    ensures left { IfOk result (IsLeft program.now (length run.now.moves)) }
+    ensures any { IsAny frees.old → IsAny frees.new }
+    ensures within { cut.from ≤ cut.to → cut.to ≤ length run.now.moves → IfOk result (λ left. IfSome left (λ short.
+        length short.moves ≤ length (without cut.by cut.from cut.to run.now.moves))) }
+    ensures none { IsAny frees.old → cut.from ≤ cut.to → cut.to ≤ length run.now.moves
+        → IfOk result (λ left. left ≡ None
+        → RacesAmong program.now run.now.threads (without cut.by cut.from cut.to run.now.moves) → ⊥) }
 {
     let moves = without(alloc, run.moves.as_slice(), cut)?;
     follow(alloc, program, frees, run.threads, moves.as_slice())
@@ -117,7 +142,8 @@ fn leave_round(
     count: usize,
 ) -> Result<Option<Followed>, NoMemory>
     requires { MayRun program.now }
-    ensures { IfOk result (IsLeft program.now (length run.now.moves)) }
+    ensures left { IfOk result (IsLeft program.now (length run.now.moves)) }
+    ensures any { IsAny frees.old → IsAny frees.new }
 {
     for from in 0..own.len() {
         if let Some(cut) = round_of(own, from, count) {
@@ -139,7 +165,8 @@ fn leave_most(
     own: &[Stand],
 ) -> Result<Option<Followed>, NoMemory>
     requires { MayRun program.now }
-    ensures { IfOk result (IsLeft program.now (length run.now.moves)) }
+    ensures left { IfOk result (IsLeft program.now (length run.now.moves)) }
+    ensures any { IsAny frees.old → IsAny frees.new }
 {
     for k in 0..own.len() {
         match leave_round(alloc, program, frees, run, own, own.len() - k) {
@@ -159,7 +186,8 @@ fn leave_some(
     t: u32,
 ) -> Result<Option<Followed>, NoMemory>
     requires { MayRun program.now }
-    ensures { IfOk result (IsLeft program.now (length run.now.moves)) }
+    ensures left { IfOk result (IsLeft program.now (length run.now.moves)) }
+    ensures any { IsAny frees.old → IsAny frees.new }
 {
     let own = moves_of(alloc, run, t)?;
     leave_most(alloc, program, frees, run, &own)
@@ -173,7 +201,8 @@ fn leave_of_one(
     run: &Followed,
 ) -> Result<Option<Followed>, NoMemory>
     requires { MayRun program.now }
-    ensures { IfOk result (IsLeft program.now (length run.now.moves)) }
+    ensures left { IfOk result (IsLeft program.now (length run.now.moves)) }
+    ensures any { IsAny frees.old → IsAny frees.new }
 {
     for t in 0..run.threads {
         match leave_some(alloc, program, frees, run, t) {
@@ -192,7 +221,8 @@ fn leave_free(
     run: &Followed,
 ) -> Result<Option<Followed>, NoMemory>
     requires { MayRun program.now }
-    ensures { IfOk result (IsLeft program.now (length run.now.moves)) }
+    ensures left { IfOk result (IsLeft program.now (length run.now.moves)) }
+    ensures any { IsAny frees.old → IsAny frees.new }
 {
     for (number, m) in run.moves.as_slice().iter().enumerate() {
         if mover(m).is_none() {
@@ -218,7 +248,8 @@ fn leave_any(
     run: &Followed,
 ) -> Result<Option<Followed>, NoMemory>
     requires { MayRun program.now }
-    ensures { IfOk result (IsLeft program.now (length run.now.moves)) }
+    ensures left { IfOk result (IsLeft program.now (length run.now.moves)) }
+    ensures any { IsAny frees.old → IsAny frees.new }
 {
     match leave_of_one(alloc, program, frees, run) {
         Ok(None) => leave_free(alloc, program, frees, run),
@@ -237,6 +268,7 @@ fn leave_all(
     requires races { RacesAmong program.now run.threads run.moves }
     ensures races { IfOk result (λ short. RacesAmong program.now short.threads short.moves) }
     ensures no_longer { IfOk result (λ short. length short.moves ≤ length run.moves) }
+    ensures any { IsAny frees.old → IsAny frees.new }
 {
     for _ in 0..run.moves.len() {
         match leave_any(alloc, program, frees, &run) {
@@ -306,6 +338,7 @@ fn in_order(
     requires races { RacesAmong program.now run.threads run.moves }
     ensures races { IfOk result (λ short. RacesAmong program.now short.threads short.moves) }
     ensures no_longer { IfOk result (λ short. length short.moves ≤ length run.moves) }
+    ensures any { IsAny frees.old → IsAny frees.new }
 {
     let other = numbered(alloc, run.moves.as_slice())?;
     match follow(alloc, program, frees, other.threads, other.moves.as_slice()) {
@@ -313,6 +346,112 @@ fn in_order(
         Ok(None) => Ok(run),
         Err(fault) => Err(fault),
     }
+}
+
+/// The maker of the move with the first number, if that with the second, where there is one, is of the same.
+fn maker_between(moves: &[Move], from: usize, to: usize) -> Option<Option<u32>>
+    ensures { result ≡ common_maker (slice_get moves.now from) (slice_get moves.now to) }
+{
+    let by = mover(moves.get(from)?);
+    match moves.get(to) {
+        Some(next) if !is_by(next, by) => None,
+        _ => Some(by),
+    }
+}
+
+/// What is left without the moves of one maker from one number on up to another, if that races.
+fn leave_span(
+    alloc: Global,
+    program: &Program,
+    frees: &mut Frees,
+    run: &Followed,
+    from: usize,
+    to: usize,
+) -> Result<Option<Followed>, NoMemory>
+    requires { MayRun program.now }
+    ensures left { IfOk result (IsLeft program.now (length run.now.moves)) }
+    ensures any { IsAny frees.old → IsAny frees.new }
+    ensures shorter { from < to → to ≤ length run.now.moves
+        → IfOk result (λ left. IfSome left (λ short. length short.moves < length run.now.moves)) }
+    ensures none { IsAny frees.old → from < to → to ≤ length run.now.moves
+        → IfOk result (λ left. left ≡ None → IsNeeded program.now run.now.threads run.now.moves from to) }
+{
+    let Some(by) = maker_between(run.moves.as_slice(), from, to) else {
+        return Ok(None);
+    };
+    tries_without(alloc, program, frees, run, Cut { by, from, to })
+}
+
+/// What is left without the moves of one maker from this number on up to another, if there is one where that races.
+fn leave_from(
+    alloc: Global,
+    program: &Program,
+    frees: &mut Frees,
+    run: &Followed,
+    from: usize,
+) -> Result<Option<Followed>, NoMemory>
+    requires { MayRun program.now }
+    ensures left { IfOk result (IsLeft program.now (length run.now.moves)) }
+    ensures any { IsAny frees.old → IsAny frees.new }
+    ensures shorter { IfOk result (λ left. IfSome left (λ short. length short.moves < length run.now.moves)) }
+    ensures none { IsAny frees.old → IfOk result (λ left. left ≡ None → (to : ℕ) → from < to
+        → to ≤ length run.now.moves → IsNeeded program.now run.now.threads run.now.moves from to) }
+{
+    for k in from..run.moves.len() {
+        match leave_span(alloc, program, frees, run, from, k + 1) {
+            Ok(None) => {}
+            tried => return tried,
+        }
+    }
+    Ok(None)
+}
+
+/// What is left without the moves of one maker in one place, if there is one where that races.
+fn leave_one(
+    alloc: Global,
+    program: &Program,
+    frees: &mut Frees,
+    run: &Followed,
+) -> Result<Option<Followed>, NoMemory>
+    requires { MayRun program.now }
+    ensures left { IfOk result (IsLeft program.now (length run.now.moves)) }
+    ensures any { IsAny frees.old → IsAny frees.new }
+    ensures shorter { IfOk result (λ left. IfSome left (λ short. length short.moves < length run.now.moves)) }
+    ensures none { IsAny frees.old → IfOk result (λ left. left ≡ None → EachIsNeeded program.now run.now.threads
+        run.now.moves) }
+{
+    for from in 0..run.moves.len() {
+        match leave_from(alloc, program, frees, run, from) {
+            Ok(None) => {}
+            tried => return tried,
+        }
+    }
+    Ok(None)
+}
+
+/// Leaves out moves until none can be left out in one place.
+fn leave_rest(
+    alloc: Global,
+    program: &Program,
+    frees: &mut Frees,
+    mut run: Followed,
+) -> Result<Followed, NoMemory>
+    requires may { MayRun program.now }
+    requires races { RacesAmong program.now run.threads run.moves }
+    ensures races { IfOk result (λ short. RacesAmong program.now short.threads short.moves) }
+    ensures no_longer { IfOk result (λ short. length short.moves ≤ length run.moves) }
+    ensures any { IsAny frees.old → IsAny frees.new }
+    ensures shortest { IsAny frees.old
+        → IfOk result (λ short. EachIsNeeded program.now short.threads short.moves) }
+{
+    for _ in 0..run.moves.len() {
+        match leave_one(alloc, program, frees, &run) {
+            Ok(Some(left)) => run = left,
+            Ok(None) => return Ok(run),
+            Err(fault) => return Err(fault),
+        }
+    }
+    Ok(run)
 }
 
 /// The moves of a run.
@@ -337,15 +476,21 @@ fn shorten_followed(
     requires races { RacesAmong program.now run.threads run.moves }
     ensures races { IfOk result (λ short. RacesAmong program.now short.threads short.moves) }
     ensures no_longer { IfOk result (λ short. length short.moves ≤ length run.moves) }
+    ensures any { IsAny frees.old → IsAny frees.new }
+    ensures shortest { IsAny frees.old
+        → IfOk result (λ short. EachIsNeeded program.now short.threads short.moves) }
 {
     let run = leave_all(alloc, program, frees, run)?;
     let run = in_order(alloc, program, frees, run)?;
+    let run = leave_rest(alloc, program, frees, run)?;
     Ok(trail_of(run))
 }
 
 /// Makes a run that races short. It is followed first: where that doesn't come to a race, since a reclaimer then frees
 /// other addresses, the run is answered as it was given. So what is answered races where the given run does, as each
-/// does that `explore` finds. The one error is that memory runs out.
+/// does that `explore` finds. Where nobody says what is freed and the answer races, no thread's moves from one of them
+/// on up to another, or to the end, can be left out so that the others still race. The one error is that memory runs
+/// out.
 pub fn shorten(
     alloc: Global,
     program: &Program,
@@ -357,6 +502,8 @@ pub fn shorten(
         → RacesAmong program.now short.threads short.moves) }
     ensures or_given { IfOk result (λ short. (RacesAmong program.now short.threads short.moves) ⊎ (short ≡ trail)) }
     ensures no_longer { IfOk result (λ short. length short.moves ≤ length trail.moves) }
+    ensures shortest { IsAny frees.old → IfOk result (λ short. RacesAmong program.now short.threads short.moves
+        → EachIsNeeded program.now short.threads short.moves) }
 {
     match follow(alloc, program, frees, trail.threads, trail.moves.as_slice()) {
         Ok(Some(run)) => shorten_followed(alloc, program, frees, run),

@@ -1,5 +1,8 @@
-use Rattle.std.proofs.Common.{◌≤◌, ◌+◌, length}
+use Rattle.std.proofs.Common.{◌≡◌, ◌≤◌, ◌+◌, ◌++◌, length, take}
 use Rattle.plc_explore.proofs.shortening.push_all.Given as goal
 
 abbrev pub invariant-loop-m : goal.invariant-loop-m
-invariant-loop-m l = length l.left ≤ length l.fn.left + l.m-index
+invariant-loop-m l = record {
+  exact : l.left ≡ l.fn.left ++ take l.m-index l.moves;
+  no_more : length l.left ≤ length l.fn.left + l.m-index;
+}

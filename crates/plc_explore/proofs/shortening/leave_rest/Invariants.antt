@@ -1,0 +1,11 @@
+use Rattle.std.proofs.Common.{◌≤◌, ◌+◌, length}
+use Rattle.plc_explore.specs.Following.{IsAny}
+use Rattle.plc_explore.specs.Racing.{RacesAmong}
+use Rattle.plc_explore.proofs.shortening.leave_rest.Given as goal
+
+abbrev pub invariant-loop : goal.invariant-loop
+invariant-loop g l = record {
+  races : RacesAmong l.program l.run.threads l.run.moves;
+  fewer : length l.run.moves + l.counter ≤ length l.fn.run.moves;
+  any : IsAny l.fn.frees → IsAny l.frees;
+}
