@@ -8,7 +8,7 @@ use Rattle.plc_cli.specs.Statuses.{fails}
 use Rattle.plc_hunting.specs.Racing.{IsHuntUnder, IsFreeHunt}
 use Rattle.plc_hunting.specs.Texts.{none_met}
 
--- the answer is that no race was met
+-- nothing was found, and nothing else is written
 abbrev pub IsNothing : ℕ → List ℕ → Type 0
 IsNothing status text = (status ≡ fails) × (text ≡ none_met)
 
