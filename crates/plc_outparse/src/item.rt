@@ -4,8 +4,7 @@ ghost use Rattle.std.specs.Prelude.{ℕ, List, true, map};
 ghost use Rattle.plc_lang.specs.Locals.{locals_of};
 ghost use Rattle.plc_lang.specs.declared.syntax.Op.{Op};
 ghost use Rattle.plc_scope.specs.Answers.{Gives};
-ghost use Rattle.plc_syntax.specs.Trees.{InvariantItem, OverItem, AtItem};
-ghost use Rattle.plc_syntax.specs.Views.{name_tree};
+ghost use Rattle.plc_syntax.specs.Trees.{InvariantItem};
 ghost use Rattle.plc_tree.specs.FormViews.{clause_tree, item_tree};
 ghost use Rattle.plc_outparse.specs.Context.{IsWithinLimits};
 ghost use Rattle.plc_outparse.specs.Meaning.{clause_means, item_step, in_turn};
@@ -18,7 +17,6 @@ use plc_base::{Items, OpId, What1};
 use plc_lang::locals_of;
 use plc_logic::{Clause, Item, Site};
 use plc_scope::{ParseFault, Resolved, Scope};
-use plc_syntax::Name;
 use plc_tree::{Clause as ClauseForm, Item as ItemForm};
 use std::alloc::Global;
 
@@ -52,73 +50,37 @@ fn clause_in(alloc: Global, context: &Context, op: usize, form: &ClauseForm) -> 
     clause(alloc, context.scope, locals_of(context.ops, op), true, form)
 }
 
-/// An item over an operation.
-#[tactic(auto, unfolding(crate::specs::Meaning::item_step))]
-fn add_over(
-    alloc: Global,
-    context: &Context,
-    parts: &mut Parts,
-    name: Name,
-    form: &ClauseForm,
-) -> Resolved<()>
-    requires { IsWithinLimits context.now }
-    ensures { Gives (λ _. parts_of parts.new) result
-        (item_step context.now.scope.now context.now.ops.now context.now.by_op.now (parts_of parts.old)
-        (OverItem (name_tree name.entry) (clause_tree form.now))) }
-{
-    if parts.items.len() == What1::Items.most() as usize {
-        return Err(ParseFault::past(What1::Items));
-    }
-    let op = op_at(context, name)?;
-    let clause = clause_in(alloc, context, op as usize, form)?;
-    let site = Site::Over(OpId(op));
-    parts.items.push(Item { site, clause })?;
-    Ok(())
-}
-
-/// An item at labels.
-#[tactic(auto, unfolding(crate::specs::Meaning::item_step))]
-fn add_at(
-    alloc: Global,
-    context: &Context,
-    parts: &mut Parts,
-    name: Name,
-    others: &[Name],
-    form: &ClauseForm,
-) -> Resolved<()>
-    requires { IsWithinLimits context.now }
-    ensures { Gives (λ _. parts_of parts.new) result
-        (item_step context.now.scope.now context.now.ops.now context.now.by_op.now (parts_of parts.old)
-        (AtItem (name_tree name.entry) (map name_tree others.now) (clause_tree form.now))) }
-{
-    if parts.items.len() == What1::Items.most() as usize {
-        return Err(ParseFault::past(What1::Items));
-    }
-    let (labels, op) = labels(alloc, context, name, others)?;
-    let clause = clause_in(alloc, context, op, form)?;
-    let site = Site::At(labels);
-    parts.items.push(Item { site, clause })?;
-    Ok(())
-}
-
 /// An item.
+#[tactic(auto, unfolding(crate::specs::Meaning::item_step))]
 fn add_item(alloc: Global, context: &Context, parts: &mut Parts, form: &ItemForm) -> Resolved<()>
     requires { IsWithinLimits context.now }
     ensures { Gives (λ _. parts_of parts.new) result
         (item_step context.now.scope.now context.now.ops.now context.now.by_op.now (parts_of parts.old)
         (item_tree form.now)) }
 {
+    let is_full = parts.items.len() == What1::Items.most() as usize;
     match form {
         ItemForm::Invariant(clause) => add_invariant(alloc, context.scope, parts, clause),
-        ItemForm::Over(name, clause) => add_over(alloc, context, parts, *name, clause),
-        ItemForm::At(name, others, clause) => add_at(
-            alloc,
-            context,
-            parts,
-            *name,
-            others.as_slice(),
-            clause,
-        ),
+        ItemForm::Over(name, clause) => {
+            if is_full {
+                return Err(ParseFault::past(What1::Items));
+            }
+            let op = op_at(context, *name)?;
+            let clause = clause_in(alloc, context, op as usize, clause)?;
+            let site = Site::Over(OpId(op));
+            parts.items.push(Item { site, clause })?;
+            Ok(())
+        }
+        ItemForm::At(name, others, clause) => {
+            if is_full {
+                return Err(ParseFault::past(What1::Items));
+            }
+            let (labels, op) = labels(alloc, context, *name, others.as_slice())?;
+            let clause = clause_in(alloc, context, op, clause)?;
+            let site = Site::At(labels);
+            parts.items.push(Item { site, clause })?;
+            Ok(())
+        }
     }
 }
 
