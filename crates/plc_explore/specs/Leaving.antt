@@ -13,6 +13,7 @@ maker_of (Take t nth addr) = Some t
 maker_of (Return t) = Some t
 maker_of (Free a) = None
 
+-- both are the same thread, or both are none
 abbrev pub same_maker : Option ℕ → Option ℕ → Bool
 same_maker None None = true
 same_maker None (Some t) = false
@@ -23,7 +24,7 @@ same_maker (Some s) (Some t) = t == s
 abbrev pub made_by : Option ℕ → Move → Bool
 made_by by move = same_maker by (maker_of move)
 
--- the moves but those
+-- the moves but those of this thread, or but the frees
 abbrev pub others : Option ℕ → List Move → List Move
 others by moves = filter (λ move. not (made_by by move)) moves
 
@@ -44,7 +45,7 @@ IsNeeded program threads moves from to =
     (by : Option ℕ) → common_maker (slice_get moves from) (slice_get moves to) ≡ Some by
     → RacesAmong program threads (without by from to moves) → ⊥
 
--- of no thread can the moves from one of them on up to another, or to the end, be left out; nor can frees so
+-- no thread's moves, from one of them on up to another or to the end, can be left out; nor can the frees of such a part
 abbrev pub EachIsNeeded : Program → ℕ → List Move → Type 0
 EachIsNeeded program threads moves =
     (from to : ℕ) → from < to → to ≤ length moves → IsNeeded program threads moves from to

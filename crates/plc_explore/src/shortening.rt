@@ -4,8 +4,8 @@
 // from the beginning (delta debugging, Zeller 1999), and what was made on the way, up to the race, is what is left: the
 // run that is answered was made itself, and nothing rests on what was left out. Then the threads are numbered in the
 // order in which they move first, and that is followed, too. At last all parts of one thread are tried, wherever it
-// stands, until none can be left out: too many for a long run, but few for what is left by then, and all that the
-// contract speaks of.
+// stands, until none can be left out. For a long run these are too many, but few for what is left by then. Of what can't
+// be left out the contract says this alone.
 ghost use Rattle.std.specs.Prelude.{◌≡◌, ◌⊎◌, ◌≤◌, ◌<◌, ◌+◌, ◌++◌, ℕ, IfOk, IfSome, None, OnOk, length, slice_get};
 ghost use Rattle.plc_explore.specs.Following.{IsAny};
 ghost use Rattle.plc_explore.specs.Leaving.{EachIsNeeded, IsNeeded, common_maker, made_by, others, without};
@@ -257,7 +257,7 @@ fn leave_any(
     }
 }
 
-/// Leaves out moves until none is left that isn't needed.
+/// Leaves out parts between two stands at one point, and frees, until none of these can be left out.
 fn leave_all(
     alloc: Global,
     program: &Program,
@@ -406,7 +406,7 @@ fn leave_from(
     Ok(None)
 }
 
-/// What is left without the moves of one maker in one place, if there is one where that races.
+/// What is left without the moves of one maker from one of them on up to another, if there are two where that races.
 fn leave_one(
     alloc: Global,
     program: &Program,
@@ -429,7 +429,7 @@ fn leave_one(
     Ok(None)
 }
 
-/// Leaves out moves until none can be left out in one place.
+/// Leaves out moves of one maker, from one of them on up to another or to the end, until none can be left out so.
 fn leave_rest(
     alloc: Global,
     program: &Program,

@@ -8,7 +8,7 @@ use Rattle.plc_cli.specs.Statuses.{fails}
 use Rattle.plc_hunting.specs.Racing.{IsHuntUnder, IsFreeHunt}
 use Rattle.plc_hunting.specs.Texts.{none_met}
 
--- nothing was found, and nothing else is written
+-- the answer is that no race was met
 abbrev pub IsNothing : ℕ → List ℕ → Type 0
 IsNothing status text = (status ≡ fails) × (text ≡ none_met)
 

@@ -39,8 +39,8 @@ pub record Outputs : Type 0 where
 abbrev pub outputs : KnownSink → KnownSink → Outputs
 outputs out said = record { out = out; said = said }
 
--- an answer's status says that a race was found, or none; above it the file is refused, or can't be read, or the words
--- are of no listed form
+-- 0 and 1 answer a hunt; a greater status says what keeps from one: a refused file, one that can't be read, or wrong
+-- words
 abbrev pub keeps_from_hunt : ℕ → Bool
 keeps_from_hunt status = nat_lt fails status
 

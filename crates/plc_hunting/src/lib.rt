@@ -1,8 +1,8 @@
 //! The command line of `plc-hunt`: a run of a file's program that races, as a schedule, by the words that are given.
 //! Runs are drawn (`plc_explore`), and what is answered was followed once more: as a schedule that `replay` under the
 //! same reclaimer answers with a race, or, where any allowed free may come, as a run of the definition.
-//! `hunt` promises for all words which text is due, with its status, to which of two outputs it goes, that of answers or
-//! that of what keeps from one, and how far it was written.
+//! For all words, `hunt` promises which text is due, with which status, and how far it was written. An answer goes to
+//! one output, and what keeps from an answer to the other.
 #![tactic(auto)]
 
 mod account;
