@@ -4,8 +4,8 @@
 // from the beginning (delta debugging, Zeller 1999), and what was made on the way, up to the race, is what is left: the
 // run that is answered was made itself, and nothing rests on what was left out. Then the threads are numbered in the
 // order in which they move first, and that is followed, too. At last all parts of one thread are tried, wherever it
-// stands, until none can be left out. For a long run these are too many, but few for what is left by then. Of what can't
-// be left out the contract says this alone.
+// stands, until none can be left out. For a long run these are too many, but few for what is left by then. Of what
+// can't be left out the contract says this alone.
 ghost use Rattle.std.specs.Prelude.{◌≡◌, ◌⊎◌, ◌≤◌, ◌<◌, ◌+◌, ◌++◌, ℕ, IfOk, IfSome, None, OnOk, length, slice_get};
 ghost use Rattle.plc_explore.specs.Following.{IsAny};
 ghost use Rattle.plc_explore.specs.Leaving.{EachIsNeeded, IsNeeded, common_maker, made_by, others, without};
